@@ -1,0 +1,81 @@
+-- One event: what it is answered and the state that it leaves. Assumes nothing.
+use Prim.Native.Nat.{ℕ, _+_, _*_, _%_}
+use mathlib.Core.Bool.{Bool, cond, _||_, _&&_, true}
+use lib.Dec.{eqb}
+use lib.IntN.{ℤ}
+use Rattle.rules.specs.declared.event.Event.{Event}
+use Rattle.rules.specs.declared.event.Event.the-variants.{Reset, Send, Write, Read, Receive, Respond, Start, End}
+use Rattle.rules.specs.declared.event.Checked.{Checked}
+use Rattle.rules.specs.declared.event.Checked.the-variants.{Good, Bad}
+use Rattle.rules.specs.declared.state.State.{State}
+use Rattle.rules.specs.declared.answer.Answer.{Answer}
+use Rattle.rules.specs.declared.answer.Done.{Done}
+use Rattle.rules.specs.Configuration.{standby}
+use Rattle.rules.specs.Conversion.{converted}
+use Rattle.rules.specs.Event.{checkOf}
+use Rattle.rules.specs.Lines.{alertLow, alertLine, thermLine}
+use Rattle.rules.specs.PowerOn.{powerOn}
+use Rattle.rules.specs.Registers.{readAtPointer}
+use Rattle.rules.specs.Setters.{withBusy, withLatch, withPointer}
+use Rattle.rules.specs.Status.{anyFlag}
+use Rattle.rules.specs.WellFormed.{wellFormed}
+use Rattle.rules.specs.Write.{written}
+
+-- Answer codes: alert and therm are read from the state that the answer gives
+abbrev pub answerOf : ℕ → ℕ → State → Answer
+answerOf code reply s = record { code = code; reply = reply; alert = alertLine s; therm = thermLine s; state = s }
+
+-- "0, done"
+abbrev pub done : Done → Answer
+done d = answerOf 0 (d .reply) (d .state)
+
+-- "Codes 1 to 6 give reply byte 0 and the state as it came"
+abbrev pub refused : ℕ → State → Answer
+refused code s = answerOf code 0 s
+
+-- "With code 0, kinds 0, 1, 2, 6 and 7 reply 0"
+abbrev pub silent : State → Done
+silent s = record { reply = 0; state = s }
+
+-- 3, "kinds 1 to 4 with an address other than the chip's"
+abbrev pub onBus : State → ℕ → Done → Answer
+onBus s address d = cond (eqb address (s .given .address)) (done d) (refused 3 s)
+
+-- "replies 2 times the address plus 1": a bus address has seven bits
+abbrev pub responseOf : ℕ → ℕ
+responseOf address = 2 * (address % 128) + 1
+
+-- "then clears the latch if flags 6 to 2 are all 0"
+abbrev pub responded : State → State
+responded s = withLatch s (s .latch && anyFlag s)
+
+-- "Kind 5 while ALERT is low"; 3, "kind 5 while ALERT is high"
+unfoldable pub respondOf : State → Answer
+respondOf s = cond (alertLow s) (answerOf 0 (responseOf (s .given .address)) (responded s)) (refused 3 s)
+
+-- 4, "kind 6 in standby, or while a conversion runs"
+unfoldable pub startOf : State → Answer
+startOf s = cond (standby (s .config) || s .busy) (refused 4 s) (done (silent (withBusy s true)))
+
+-- 5, "kind 7 while no conversion runs"
+unfoldable pub endOf : State → ℤ → ℤ → Bool → Answer
+endOf s local remote broken = cond (s .busy) (done (silent (converted s local remote broken))) (refused 5 s)
+
+-- the eight forms
+unfoldable pub applyOf : State → Event → Answer
+applyOf s Reset = done (silent (powerOn (s .given)))
+applyOf s (Send address command) = onBus s address (silent (withPointer s command))
+applyOf s (Write address command b) = onBus s address (silent (written s command b))
+applyOf s (Read address command) = onBus s address (readAtPointer (withPointer s command))
+applyOf s (Receive address) = onBus s address (readAtPointer s)
+applyOf s Respond = respondOf s
+applyOf s Start = startOf s
+applyOf s (End local remote broken) = endOf s local remote broken
+
+-- "Order: 6, 1, 2, then 3, 4 or 5"
+abbrev pub checkedOf : State → Checked → Answer
+checkedOf s (Good e) = applyOf s e
+checkedOf s (Bad code) = refused code s
+
+unfoldable pub stepOf : State → ℤ → ℤ → ℤ → ℤ → Answer
+stepOf s kind a b c = cond (wellFormed s) (checkedOf s (checkOf kind a b c)) (refused 6 s)
