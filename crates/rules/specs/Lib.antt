@@ -16,3 +16,7 @@ pub mod Write
 pub mod Conversion
 pub mod WellFormed
 pub mod Step
+pub mod Trial
+pub mod BenchCases
+pub mod RuleCases
+pub mod Sound

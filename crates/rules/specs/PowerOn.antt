@@ -50,6 +50,9 @@ isAddress a = eqb a 76 || eqb a 77
 abbrev pub noState : Made
 noState = record { code = 2; state = allZero }
 
+abbrev pub madeAt : ℕ → Made
+madeAt a = record { code = 0; state = powerOn (record { address = a }) }
+
 abbrev pub madeOf : ℤ → Made
-madeOf (pos a) = cond (isAddress a) (record { code = 0; state = powerOn (record { address = a }) }) noState
+madeOf (pos a) = cond (isAddress a) (madeAt a) noState
 madeOf (negsuc n) = noState

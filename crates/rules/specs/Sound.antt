@@ -1,0 +1,34 @@
+-- What is shown of the rules as a whole. The proofs are in proofs/WellFormed.antt and proofs/Unique.antt. Assumes nothing.
+use Prim.Native.Nat.{ℕ}
+use mathlib.Core.Path.{_≡_}
+use mathlib.Core.Bool.{true}
+use mathlib.Core.List.{List, [], _∷_}
+use lib.IntN.{ℤ}
+use Rattle.rules.specs.declared.state.State.{State}
+use Rattle.rules.specs.PowerOn.{madeOf}
+use Rattle.rules.specs.Step.{stepOf}
+use Rattle.rules.specs.Trial.{Four}
+use Rattle.rules.specs.WellFormed.{wellFormed}
+
+-- the state after events sent one after the other, refused ones among them
+unfoldable pub after : State → List Four → State
+after s [] = s
+after s (e ∷ es) = after (stepOf s (e .kind) (e .a) (e .b) (e .c) .state) es
+
+-- a fresh state is well formed
+abbrev pub FreshWellFormed : Type 0
+FreshWellFormed = (address : ℤ) → madeOf address .code ≡ 0 → wellFormed (madeOf address .state) ≡ true
+
+-- every step keeps a state so
+abbrev pub StepsWellFormed : Type 0
+StepsWellFormed = (s : State) (kind a b c : ℤ) → wellFormed s ≡ true → wellFormed (stepOf s kind a b c .state) ≡ true
+
+-- so that, from power-on, no event of any sequence is answered with code 6
+abbrev pub NeverSix : Type 0
+NeverSix =
+    (address : ℤ) → madeOf address .code ≡ 0 → (es : List Four) (kind a b c : ℤ) → stepOf (after (madeOf address .state) es) kind a b c .code ≡ 6 → ⊥
+
+-- "a state of all zeros, which code 6 refuses"
+abbrev pub RefusedAfterCode2 : Type 0
+RefusedAfterCode2 =
+    (address : ℤ) → madeOf address .code ≡ 2 → (kind a b c : ℤ) → stepOf (madeOf address .state) kind a b c .code ≡ 6
