@@ -1,0 +1,77 @@
+-- `registers::keep::trim_remote` meets its contract, setting by setting. Assumes nothing.
+use borrow.Author.Needs.{needs}
+use Rattle.registers.proofs.keep.trim_remote.Statement.{statement}
+use Rattle.registers.proofs.keep.trim_remote.Tie as tie
+
+enum-told : tie.Need-enum-told
+enum-told c = search needs
+
+enum-told-2 : tie.Need-enum-told-2
+enum-told-2 c = search needs
+
+trim-fine-requires : tie.Need-trim-fine-requires
+trim-fine-requires c κs = search needs
+
+enum-told-3 : tie.Need-enum-told-3
+enum-told-3 c = search needs
+
+enum-told-4 : tie.Need-enum-told-4
+enum-told-4 c = search needs
+
+trim-fine-requires-2 : tie.Need-trim-fine-requires-2
+trim-fine-requires-2 c κs = search needs
+
+enum-told-5 : tie.Need-enum-told-5
+enum-told-5 c = search needs
+
+enum-told-6 : tie.Need-enum-told-6
+enum-told-6 c = search needs
+
+trim-fine-requires-3 : tie.Need-trim-fine-requires-3
+trim-fine-requires-3 c κs = search needs
+
+enum-told-7 : tie.Need-enum-told-7
+enum-told-7 c = search needs
+
+returns : tie.Need-returns
+returns c = search needs
+
+returns-2 : tie.Need-returns-2
+returns-2 c = simp (c .trim-fine .ensures, c .before .enum-told2 .given .1)
+
+returns-3 : tie.Need-returns-3
+returns-3 c = search needs
+
+returns-4 : tie.Need-returns-4
+returns-4 c = simp (c .trim-fine2 .ensures, c .before .enum-told4 .given .1)
+
+returns-5 : tie.Need-returns-5
+returns-5 c = search needs
+
+returns-6 : tie.Need-returns-6
+returns-6 c = simp (c .trim-fine3 .ensures, c .before .enum-told6 .given .1)
+
+returns-7 : tie.Need-returns-7
+returns-7 c = search needs
+
+pub trim-remote-spec : {M : Type 1} → statement M
+trim-remote-spec =
+    tie.close
+    (tie.spec
+    enum-told
+    enum-told-2
+    trim-fine-requires
+    enum-told-3
+    enum-told-4
+    trim-fine-requires-2
+    enum-told-5
+    enum-told-6
+    trim-fine-requires-3
+    enum-told-7
+    returns
+    returns-2
+    returns-3
+    returns-4
+    returns-5
+    returns-6
+    returns-7)
