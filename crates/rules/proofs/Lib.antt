@@ -1,5 +1,6 @@
--- What is shown of the rules.
+-- What is shown of the rules, and one law on numbers for the crates above.
 pub mod Choice
+pub mod Match
 pub mod NeverSix
 pub mod Tables
 pub mod WellFormed

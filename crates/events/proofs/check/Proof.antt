@@ -1,22 +1,19 @@
 -- `events::check` meets its contract: in each arm the kind is its number, and the rules follow from what the calls ensure.
 -- Assumes nothing.
-use mathlib.Core.Path.{_≡_, refl, sym, ap, _∙_}
+use mathlib.Core.Path.{_≡_, refl}
 use mathlib.Core.Logic.{_≢_}
 use Prim.Native.Nat.{ℕ}
 use lib.IntN.{ℤ}
 use lib.IntN.ℤ.{pos, negsuc}
 use mir.Syntax.{w16, w32}
-use mir.Val.{SFits, ofZ, toZ}
+use mir.Val.{SFits, ofZ}
 use mir.Facts.{toZ-ofZ}
 use borrow.Author.Tests.{ne-eqb}
+use Rattle.rules.proofs.Match.{key}
 use Rattle.rules.specs.Event.{checkOf}
 use Rattle.rules.specs.declared.event.Checked.the-variants.{Bad}
 use Rattle.events.proofs.check.Statement.{statement}
 use Rattle.events.proofs.check.Tie as tie
-
--- an arm of the match says which bits the kind has
-key : {x : ℤ} {n : ℕ} → SFits w32 x → ofZ w32 x ≡ n → x ≡ toZ w32 n
-key h e = sym (toZ-ofZ h) ∙ ap (toZ w32) e
 
 -- the kind's bits are no arm's number, in the form in which the match leaves it
 abbrev Other : ℕ → Type 0

@@ -1,0 +1,26 @@
+// Document 01, Status, ALERT, THERM: the two lines.
+use registers::bits::is_masked;
+use registers::bits::is_therm2;
+use rules::state::State;
+ghost use mathlib.Core.Path.{_≡_};
+ghost use Rattle.rules.specs.Lines.{alertLow, alertLine, thermLow, thermLine};
+
+// What an alert response is answered by.
+pub fn alert_low(s: State) -> bool
+    ensures { λ r. ⌜ r ≡ alertLow s ⌝ }
+{
+    s.latch & !is_masked(s.config) & !is_therm2(s.config)
+}
+
+// What an answer reports: true is high.
+pub fn alert_line(s: State) -> bool
+    ensures { λ r. ⌜ r ≡ alertLine s ⌝ }
+{
+    !alert_low(s)
+}
+
+pub fn therm_line(s: State) -> bool
+    ensures { λ r. ⌜ r ≡ thermLine s ⌝ }
+{
+    !(s.remote.marks.therm | s.local.marks.therm)
+}
