@@ -1,0 +1,21 @@
+-- `chip::event::checked` meets its contract by its callees'. Assumes nothing.
+use borrow.Author.Needs.{needs}
+use Rattle.chip.proofs.event.checked.Statement.{statement}
+use Rattle.chip.proofs.event.checked.Tie as tie
+
+returns : tie.Need-returns
+returns c = rw (c .apply .ensures, c .before .before .c .given .1)
+
+returns-2 : tie.Need-returns-2
+returns-2 c = rw (c .refused .ensures, c .before .before .c2 .given .1)
+
+pub checked-spec : {M : Type 1} → statement M
+checked-spec =
+    tie.close
+    (tie.spec
+    (λ c. search needs)
+    (λ c κs. tt)
+    (λ c. search needs)
+    (λ c κs. tt)
+    returns
+    returns-2)

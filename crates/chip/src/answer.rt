@@ -1,0 +1,51 @@
+// Document 01, Answer codes: every answer reads its lines from the state that it gives.
+use bank::lines::alert_line;
+use bank::lines::therm_line;
+use rules::answer::Answer;
+use rules::answer::Done;
+use rules::state::State;
+ghost use mathlib.Core.Path.{_≡_};
+ghost use Rattle.rules.specs.Step as rule;
+ghost use Rattle.rules.specs.Step.{answerOf, onBus};
+
+pub fn answer(code: u8, reply: u8, s: State) -> Answer
+    ensures { λ r. ⌜ r ≡ answerOf code reply s ⌝ }
+{
+    Answer {
+        code,
+        reply,
+        alert: alert_line(s),
+        therm: therm_line(s),
+        state: s,
+    }
+}
+
+pub fn done(d: Done) -> Answer
+    ensures { λ r. ⌜ r ≡ rule.done d ⌝ }
+{
+    let s = d.state;
+    answer(0, d.reply, s)
+}
+
+pub fn silent(s: State) -> Done
+    ensures { λ r. ⌜ r ≡ rule.silent s ⌝ }
+{
+    Done { reply: 0, state: s }
+}
+
+pub fn refused(code: u8, s: State) -> Answer
+    ensures { λ r. ⌜ r ≡ rule.refused code s ⌝ }
+{
+    answer(code, 0, s)
+}
+
+// What was done, if the address is the chip's; otherwise code 3, and nothing was.
+pub fn on_bus(s: State, address: u8, d: Done) -> Answer
+    ensures { λ r. ⌜ r ≡ onBus s address d ⌝ }
+{
+    if address == s.given.address {
+        done(d)
+    } else {
+        refused(3, s)
+    }
+}
