@@ -6,7 +6,7 @@ use rules::state::Sensor;
 use rules::state::Settings;
 use rules::state::State;
 ghost use mathlib.Core.Path.{_≡_};
-ghost use Rattle.rules.specs.Setters.{withSettings};
+ghost use Rattle.rules.specs.Setters.{withConfig, withSettings};
 ghost use Rattle.rules.specs.Registers.{settingOf, withSetting, sensorAt, withSensor, storedOf, withStored};
 
 fn setting(t: Settings, q: Setting) -> u8
@@ -86,11 +86,17 @@ pub fn stored(s: State, register: Register) -> u8
     }
 }
 
+fn with_config(s: State, b: u8) -> State
+    ensures { λ r. ⌜ r ≡ withConfig s b ⌝ }
+{
+    State { config: b, ..s }
+}
+
 pub fn with_stored(s: State, register: Register, b: u8) -> State
     ensures { λ r. ⌜ r ≡ withStored s register b ⌝ }
 {
     match register {
-        Register::Config => State { config: b, ..s },
+        Register::Config => with_config(s, b),
         Register::Rate => State { rate: b, ..s },
         Register::Hysteresis => State { hysteresis: b, ..s },
         Register::Consecutive => State {

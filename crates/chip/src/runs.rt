@@ -1,5 +1,7 @@
 // Document 01, Status, ALERT, THERM: the run count and the number it needs.
 ghost use mathlib.Core.Path.{_≡_};
+ghost use mathlib.Core.Bool.{cond};
+ghost use Prim.Native.Nat.{_+_, _≤_};
 ghost use mathlib.Core.List.{[], _∷_};
 ghost use Rattle.rules.specs.Runs as rule;
 ghost use Rattle.rules.specs.Runs.{runsOf, neededOf, convertedSets};
@@ -21,19 +23,23 @@ pub fn counted(runs: u8, a: bool, b: bool) -> u8
     }
 }
 
-// The ones stand together only as long as none is missing.
+// One bit and the ones that follow it: a bit that is not set ends them.
+fn ones(set: bool, more: u8) -> u8
+    requires { ⌜ more ≤ 2 ⌝ }
+    ensures { λ r. ⌜ r ≡ cond set (1 + more) 0 ⌝ }
+    ensures { λ r. ⌜ r ≤ 1 + more ⌝ }
+{
+    if set { 1 + more } else { 0 }
+}
+
 fn needed(consecutive: u8) -> u8
     ensures { λ r. ⌜ r ≡ neededOf consecutive ⌝ }
 {
-    if consecutive / 2 % 2 == 1 {
-        if consecutive / 4 % 2 == 1 {
-            if consecutive / 8 % 2 == 1 { 4 } else { 3 }
-        } else {
-            2
-        }
-    } else {
-        1
-    }
+    1
+        + ones(
+            consecutive / 2 % 2 == 1,
+            ones(consecutive / 4 % 2 == 1, ones(consecutive / 8 % 2 == 1, 0)),
+        )
 }
 
 pub fn sets(runs: u8, consecutive: u8, broken: bool) -> bool

@@ -4,7 +4,7 @@ use Rattle.bank.proofs.store.with_stored.Statement.{statement}
 use Rattle.bank.proofs.store.with_stored.Tie as tie
 
 returns : tie.Need-returns
-returns c = rw (c .before .before .before .enum-told .given .1)
+returns c = rw (c .with-config .ensures, c .before .enum-told .given .1)
 
 returns-2 : tie.Need-returns-2
 returns-2 c = rw (c .before .before .before .enum-told2 .given .1)
@@ -23,6 +23,7 @@ with-stored-spec =
     tie.close
     (tie.spec
     (λ c. search needs)
+    (λ c κs. tt)
     (λ c. search needs)
     (λ c. search needs)
     (λ c. search needs)

@@ -1,24 +1,24 @@
--- `chip::runs::needed` meets its contract, bit by bit. Assumes nothing.
-use borrow.Author.Tests.{eq-eqb, ne-eqb}
-use Rattle.rules.specs.Runs.{neededOf}
+-- `chip::runs::needed` meets its contract: the three calls are the rule's list. Assumes nothing.
+use Prim.Native.Nat.{_+_}
+use mathlib.Core.Path.{_≡_, refl, ap}
+use mathlib.Core.Bool.{Bool, true, false, cond}
+use mathlib.Core.List.{[], _∷_}
+use borrow.Author.Needs.{needs}
+use Rattle.rules.specs.Runs.{ones, neededOf}
 use Rattle.chip.proofs.runs.needed.Statement.{statement}
 use Rattle.chip.proofs.runs.needed.Tie as tie
 
+three : (a b c : Bool) → cond a (1 + cond b (1 + cond c (1 + 0) 0) 0) 0 ≡ ones (a ∷ b ∷ c ∷ [])
+three true true true = refl
+three true true false = refl
+three true false c = refl
+three false b c = refl
+
 returns : tie.Need-returns
 unfolding neededOf
-returns c = rw (eq-eqb _ _ (c .before .before .if1 .taken), eq-eqb _ _ (c .before .if2 .taken), eq-eqb _ _ (c .if3 .taken))
-
-returns-2 : tie.Need-returns-2
-unfolding neededOf
-returns-2 c = rw (eq-eqb _ _ (c .before .before .if1 .taken), eq-eqb _ _ (c .before .if2 .taken), ne-eqb _ _ (c .if3 .left))
-
-returns-3 : tie.Need-returns-3
-unfolding neededOf
-returns-3 c = rw (eq-eqb _ _ (c .before .if1 .taken), ne-eqb _ _ (c .if2 .left))
-
-returns-4 : tie.Need-returns-4
-unfolding neededOf
-returns-4 c = rw (ne-eqb _ _ (c .if1 .left))
+returns c =
+    rw (c .ones3 .ensures .0, c .before .ones2 .ensures .0, c .before .before .ones .ensures .0, three)
 
 pub needed-spec : {M : Type 1} → statement M
-needed-spec = tie.close (tie.spec returns returns-2 returns-3 returns-4)
+needed-spec =
+    tie.close (tie.spec (λ c κs. search needs) (λ c κs. search needs) (λ c κs. search needs) (λ c. search needs) returns)
