@@ -1,10 +1,7 @@
 // One ADT7461 as its bus sees it. `fresh` makes a state, `step` takes an event; both are total, and the last answer's state is the
 // next event's. `is_well_formed` and `is_alert_low` are for whoever joins several chips.
 mod answer;
-mod convert;
 mod event;
-mod runs;
-mod write;
 
 use rules::answer::Answer;
 use rules::answer::Made;

@@ -3,4 +3,5 @@ pub mod Choice
 pub mod Match
 pub mod NeverSix
 pub mod Tables
+pub mod Unique
 pub mod WellFormed

@@ -1,10 +1,11 @@
--- What is shown of the rules as a whole. The proofs are in proofs/WellFormed.antt and proofs/Unique.antt. Assumes nothing.
+-- What is shown of the rules as a whole. The proofs are in proofs/WellFormed.antt, NeverSix.antt and Unique.antt. Assumes nothing.
 use Prim.Native.Nat.{ℕ}
 use mathlib.Core.Path.{_≡_}
 use mathlib.Core.Bool.{true}
 use mathlib.Core.List.{List, [], _∷_}
 use lib.IntN.{ℤ}
 use Rattle.rules.specs.declared.state.State.{State}
+use Rattle.rules.specs.Lines.{alertLow}
 use Rattle.rules.specs.PowerOn.{madeOf}
 use Rattle.rules.specs.Step.{stepOf}
 use Rattle.rules.specs.Trial.{Four}
@@ -32,3 +33,20 @@ NeverSix =
 abbrev pub RefusedAfterCode2 : Type 0
 RefusedAfterCode2 =
     (address : ℤ) → madeOf address .code ≡ 2 → (kind a b c : ℤ) → stepOf (madeOf address .state) kind a b c .code ≡ 6
+
+-- "no second answer could satisfy it": whatever meets a contract `r ≡ x` is the same
+abbrev pub OneAnswer : {A : Type 0} → A → Type 0
+OneAnswer {A} x = (r r′ : A) → r ≡ x → r′ ≡ x → r ≡ r′
+
+-- the public operations' contracts, each with every argument free
+abbrev pub OneFresh : Type 0
+OneFresh = (address : ℤ) → OneAnswer (madeOf address)
+
+abbrev pub OneStep : Type 0
+OneStep = (s : State) (kind a b c : ℤ) → OneAnswer (stepOf s kind a b c)
+
+abbrev pub OneWellFormed : Type 0
+OneWellFormed = (s : State) → OneAnswer (wellFormed s)
+
+abbrev pub OneAlertLow : Type 0
+OneAlertLow = (s : State) → OneAnswer (alertLow s)

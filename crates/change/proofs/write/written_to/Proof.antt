@@ -1,0 +1,26 @@
+-- `change::write::written_to` meets its contract by its callees'. Assumes nothing.
+use borrow.Author.Needs.{needs}
+use Rattle.change.proofs.write.written_to.Statement.{statement}
+use Rattle.change.proofs.write.written_to.Tie as tie
+
+returns : tie.Need-returns
+returns c = rw (c .stored .ensures, c .before .before .to .given .1)
+
+returns-2 : tie.Need-returns-2
+returns-2 c = rw (c .one-shot .ensures, c .before .enum-told .given .1)
+
+returns-3 : tie.Need-returns-3
+returns-3 c = rw (c .enum-told2 .given .1)
+
+pub written-to-spec : {M : Type 1} → statement M
+written-to-spec =
+    tie.close
+    (tie.spec
+    (λ c. search needs)
+    (λ c κs. tt)
+    (λ c. search needs)
+    (λ c κs. tt)
+    (λ c. search needs)
+    returns
+    returns-2
+    returns-3)
