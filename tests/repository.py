@@ -30,7 +30,7 @@ def check(name, wrong):
 
 
 def loose(source, where, allowed):
-    """The public functions of a source that ask something of their caller, or promise nothing."""
+    """The public functions of a source that ask something of their caller, or do not say what their result is."""
     found = []
     for name, rest in PUBLIC.findall(source):
         if f"{where}::{name}" in allowed:
@@ -39,6 +39,8 @@ def loose(source, where, allowed):
             found.append(f"{where}::{name} has a requires")
         if not re.search(r"^\s+ensures\b", rest, re.M):
             found.append(f"{where}::{name} has no ensures")
+        elif not re.search(r"^\s+ensures \{ λ r\. ⌜ r ≡ ", rest, re.M):
+            found.append(f"{where}::{name} has no ensures that says what the result is")
     return found
 
 
@@ -46,6 +48,8 @@ def contracts():
     asks = "pub fn f(x: u8) -> u8\n    requires { a }\n    ensures { b }\n{\n    x\n}\n"
     check("a public requires is found", [] if loose(asks, "m", set()) == ["m::f has a requires"] else ["it is not"])
     check("a missing ensures is found", [] if loose("pub fn f() {\n}\n", "m", set()) == ["m::f has no ensures"] else ["it is not"])
+    vague = "pub fn f(x: u8) -> u8\n    ensures { λ r. ⌜ r ≤ x ⌝ }\n{\n    x\n}\n"
+    check("an ensures that leaves two answers is found", [] if len(loose(vague, "m", set())) == 1 else ["it is not"])
     allowed = set(re.findall(r"^\| `([\w:]+)` \|", (ROOT / "docs" / "PUBLIC.md").read_text(), re.M))
     found, seen = [], 0
     for path in sorted(ROOT.glob("crates/*/src/**/*.rt")):
@@ -54,7 +58,7 @@ def contracts():
         found += loose(text, f"{path.parts[-3]}::{path.stem}", allowed)
     if seen != sum(len(re.findall(r"^ *pub (?:extern \"C\" )?fn ", p.read_text(), re.M)) for p in ROOT.glob("crates/*/src/**/*.rt")):
         found.append("a public function was not read")
-    check(f"{seen} public functions ask nothing and promise something", found)
+    check(f"{seen} public functions ask nothing and say what their result is", found)
 
 
 # ---- docs/RULES.md

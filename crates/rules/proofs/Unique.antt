@@ -6,7 +6,8 @@ use Rattle.rules.specs.Step.{stepOf}
 use Rattle.rules.specs.WellFormed.{wellFormed}
 use Rattle.rules.specs.Sound.{OneAnswer, OneFresh, OneStep, OneWellFormed, OneAlertLow}
 
-one : {A : Type 0} (x : A) → OneAnswer x
+-- whatever the definition, so for every public function whose contract is `r ≡ ..`
+pub one : {A : Type 0} (x : A) → OneAnswer x
 one x r r′ p q = p ∙ sym q
 
 pub one-fresh : OneFresh
