@@ -45,7 +45,7 @@ def loose(source, where, allowed):
 
 
 def contracts():
-    asks = "pub fn f(x: u8) -> u8\n    requires { a }\n    ensures { b }\n{\n    x\n}\n"
+    asks = "pub fn f(x: u8) -> u8\n    requires { a }\n    ensures { λ r. ⌜ r ≡ x ⌝ }\n{\n    x\n}\n"
     check("a public requires is found", [] if loose(asks, "m", set()) == ["m::f has a requires"] else ["it is not"])
     check("a missing ensures is found", [] if loose("pub fn f() {\n}\n", "m", set()) == ["m::f has no ensures"] else ["it is not"])
     vague = "pub fn f(x: u8) -> u8\n    ensures { λ r. ⌜ r ≤ x ⌝ }\n{\n    x\n}\n"
