@@ -72,6 +72,7 @@ ruleRows =
     -- holes; identity; the pointer, which a hole's write moves too
     row (answered (read 0x18 ∷ [])) (0 ∷ 0 ∷ 1 ∷ 1 ∷ []) ∷
     row (answered (write 0x05 7 ∷ receive ∷ [])) (0 ∷ 0x55 ∷ 1 ∷ 1 ∷ []) ∷
+    row (answered (write 0x05 7 ∷ status ∷ [])) (0 ∷ 0 ∷ 1 ∷ 1 ∷ []) ∷
     row (answered (read 0xfe ∷ [])) (0 ∷ 0x41 ∷ 1 ∷ 1 ∷ []) ∷
     row (answered (send 0xff ∷ receive ∷ [])) (0 ∷ 0x51 ∷ 1 ∷ 1 ∷ []) ∷
     -- a receive byte at 02 clears
