@@ -1,0 +1,8 @@
+// A line: a name, an equals sign, a number.
+
+// A name at the front of a part: whole, begun, or not there.
+pub enum Fit {
+    Yes,
+    Begun,
+    No,
+}
