@@ -1,0 +1,2 @@
+-- What is shown of replay.
+pub mod Examples
