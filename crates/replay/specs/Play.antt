@@ -1,5 +1,6 @@
 -- Records read, stepped and answered one after the other, up to the end or to what stops them. Assumes nothing.
 use Prim.Native.Nat.{ℕ, zero, suc, _+_, _-_}
+use mathlib.Core.Path.{_≡_}
 use mathlib.Core.Bool.{Bool, cond}
 use mathlib.Core.List.{List, [], _∷_, _++_}
 use lib.Dec.{eqb, leb}
@@ -12,6 +13,7 @@ use Rattle.text.specs.declared.record.Parsed.{Parsed}
 use Rattle.text.specs.declared.record.Parsed.the-variants.{Whole, Part, Malformed}
 use Rattle.text.specs.Record.{recordOf}
 use Rattle.text.specs.Answer.{answerText}
+use Rattle.replay.specs.declared.play.Played.{Played}
 use Rattle.replay.specs.declared.play.Turn.{Turn}
 use Rattle.replay.specs.declared.play.Turn.the-variants.{Went, Stopped}
 
@@ -43,6 +45,15 @@ addedFrom s room Malformed = []
 
 unfoldable pub addedOf : State → List ℕ → ℕ → List ℕ
 addedOf s rest room = addedFrom s room (recordOf rest)
+
+-- a text at the front of what is lent, the rest as it was
+abbrev pub put : List ℕ → List ℕ → List ℕ
+put text before = text ++ drop (length text) before
+
+-- what one record's turn promises: "Answers go straight into the output"
+pub record Turned (s : State) (rest before after : List ℕ) (r : Turn) : Type 0 where
+  pub said : r ≡ turnOf s rest (length before)
+  pub bytes : after ≡ put (addedOf s rest (length before)) before
 
 -- a replay: its code, "records answered, trace bytes used", the answers' text, and the state
 pub record Run : Type 0 where
@@ -78,3 +89,12 @@ begun s = record { code = 0; records = 0; used = 0; text = []; state = s }
 -- the whole trace, from a state, into so much room
 unfoldable pub runOf : State → List ℕ → ℕ → Run
 runOf s trace room = runFrom (length trace) (begun s) trace room
+
+-- what a whole trace's play promises: each of its numbers, and every byte of the output
+pub record Ran (s : State) (trace before after : List ℕ) (r : Played) : Type 0 where
+  pub code : r .code ≡ runOf s trace (length before) .code
+  pub records : r .records ≡ runOf s trace (length before) .records
+  pub used : r .used ≡ runOf s trace (length before) .used
+  pub written : r .written ≡ length (runOf s trace (length before) .text)
+  pub state : r .state ≡ runOf s trace (length before) .state
+  pub bytes : after ≡ put (runOf s trace (length before) .text) before
