@@ -21,8 +21,8 @@ use Rattle.text.proofs.Signed.{mag-signed}
 
 -- what holds on both sides of a test, each with what the test says
 pub choice : {A : Type 0} (P : A → Type 0) (t : Bool) {x y : A} → (t ≡ true → P x) → (t ≡ false → P y) → P (cond t x y)
-choice P true yes no = yes refl
-choice P false yes no = no refl
+choice P true p q = p refl
+choice P false p q = q refl
 
 -- a part that goes to the end
 pub rest : (a : ℕ) (s : List ℕ) → take (length s - a) (drop a s) ≡ drop a s
@@ -52,22 +52,22 @@ plain-between minus s =
     (λ g. (omega (arith, eqb-false n 0 f), omega (arith, leb-false (length s) n e), mag-signed minus (digitsOf s .value) (digits-small s .0)))
     (λ g. tt))))
 
-longer-between : (k : ℕ) {low high : ℕ} (l : Line) → Between low high l → Between (k + low) (k + high) (longer k l)
-longer-between k (Is v n) h = (omega arith, omega arith, h .2)
-longer-between k Short h = tt
-longer-between k Never h = tt
+-- behind k bytes of s
+behind : (k low : ℕ) (s : List ℕ) (l : Line) → k ≤ length s → Between low (length (drop k s)) l → Between (k + low) (length s) (longer k l)
+behind k low s (Is v n) i h = let e : length (drop k s) ≡ length s - k = length-drop k s in (omega arith, omega arith, h .2)
+behind k low s Short i h = tt
+behind k low s Never i h = tt
 
-wider : {low high least most : ℕ} (l : Line) → least ≤ low → high ≤ most → Between low high l → Between least most l
-wider (Is v n) p q h = (omega arith, omega arith, h .2)
-wider Short p q h = tt
-wider Never p q h = tt
+more : (low k high : ℕ) (l : Line) → Between (k + low) high l → Between low high l
+more low k high (Is v n) h = (omega arith, h .1, h .2)
+more low k high Short h = tt
+more low k high Never h = tt
 
 pub number-between : (s : List ℕ) → Between 2 (length s) (numberOf s)
 unfolding numberOf
 number-between s =
     choice (Between 2 (length s)) (eqb (getD s 0 0) 45)
-    (λ e. let i : 0 < length s = inside s 0 (eqb-true (getD s 0 0) 45 e) in
-      wider (longer 1 (plainOf true (drop 1 s))) (omega arith) (rw length-drop (omega arith)) (longer-between 1 (plainOf true (drop 1 s)) (plain-between true (drop 1 s))))
+    (λ e. more 2 1 (length s) (longer 1 (plainOf true (drop 1 s))) (behind 1 2 s (plainOf true (drop 1 s)) (inside s 0 (eqb-true (getD s 0 0) 45 e)) (plain-between true (drop 1 s))))
     (λ e. plain-between false s)
 
 pub fit-inside : (xs s : List ℕ) → fitOf xs s ≡ Yes → length xs ≤ length s
@@ -86,7 +86,7 @@ line-between name s = by (fitOf name s) refl
   where
   by : (f : Fit) → fitOf name s ≡ f → Between (length name + 2) (length s) (behindName f name s)
   by Yes e =
-      let i : length name ≤ length s = fit-inside name s e in
-      wider (longer (length name) (numberOf (drop (length name) s))) (omega arith) (rw length-drop (omega arith)) (longer-between (length name) (numberOf (drop (length name) s)) (number-between (drop (length name) s)))
+      let k = length name in
+      behind k 2 s (numberOf (drop k s)) (fit-inside name s e) (number-between (drop k s))
   by Begun e = tt
   by No e = tt
