@@ -1,0 +1,3 @@
+-- Laws of the text, for the crates above too.
+pub mod Put
+pub mod Size
