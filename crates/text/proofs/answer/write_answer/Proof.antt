@@ -1,15 +1,14 @@
 -- `text::answer::write_answer` meets its contract: by its test of the room. Assumes nothing.
-use native.Mathlib.Omega.{arith}
 use Rattle.text.proofs.Put.{front-put, none-put}
 use borrow.Author.Needs.{needs}
 use Rattle.text.proofs.answer.write_answer.Statement.{statement}
 use Rattle.text.proofs.answer.write_answer.Tie as tie
 
 returns : tie.Need-returns
-returns c = let a = c .before .before .before .args in none-put (omega (arith, c .before .answer-size .ensures (a .alert) (a .therm), c .if1 .taken))
+returns c = none-put (rw (← c .before .answer-size .ensures _ _) (c .if1 .taken))
 
 put-answer-requires : tie.Need-put-answer-requires
-put-answer-requires c κs = let a = c .before .before .before .before .args in omega (arith, c .before .before .answer-size .ensures (a .alert) (a .therm), c .before .if1 .left)
+put-answer-requires c κs = rw (← c .before .before .answer-size .ensures _ _) (c .before .if1 .left)
 
 returns-2 : tie.Need-returns-2
 returns-2 c = front-put (c .before .before .put-answer .ensures)
