@@ -1,5 +1,7 @@
--- What the crate's proofs share, and what callers may know of the text that was read.
+-- Laws of the text, for this crate's proofs and for the crates above.
 pub mod Digits
-pub mod Signed
 pub mod Lines
+pub mod Put
 pub mod Records
+pub mod Signed
+pub mod Size

@@ -1,5 +1,5 @@
 -- "An answer is four lines: code, reply, alert, therm; 1 means the line is high." Assumes nothing.
-use Prim.Native.Nat.{ℕ, _+_, _/_, _%_}
+use Prim.Native.Nat.{ℕ, _+_, _/_, _%_, _≤_}
 use mathlib.Core.Bool.{Bool, cond}
 use mathlib.Core.List.{List, [], _∷_, _++_}
 use lib.Dec.{ltb, leb}
@@ -39,3 +39,9 @@ putOf text before = cond (leb (length text) (length before)) (text ++ drop (leng
 pub record Put (text before after : List ℕ) (r : Wrote) : Type 0 where
   pub said : r ≡ wroteOf text before
   pub bytes : after ≡ putOf text before
+
+-- a text of n bytes at the front, with all behind it as it was: what a part of an answer promises, once there is room
+pub record Front (text before after : List ℕ) (n : ℕ) : Type 0 where
+  pub room : length text ≤ length before
+  pub count : n ≡ length text
+  pub bytes : after ≡ text ++ drop (length text) before

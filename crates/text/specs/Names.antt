@@ -34,3 +34,7 @@ recordNames = kindName ∷ aName ∷ bName ∷ cName ∷ []
 
 abbrev pub answerNames : List (List ℕ)
 answerNames = codeName ∷ replyName ∷ alertName ∷ thermName ∷ []
+
+-- "end="
+abbrev pub endName : List ℕ
+endName = 101 ∷ 110 ∷ 100 ∷ 61 ∷ []
