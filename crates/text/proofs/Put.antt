@@ -9,11 +9,15 @@ use mathlib.Core.Path.{_≡_, refl, sym, ap, _∙_}
 use mathlib.Core.List.{List, [], _∷_, _++_, append-assoc, append-nil}
 use borrow.Author.Tests.{le-leb, lt-leb, leb-true, leb-false}
 use lib.Dec.{leb}
-use lib.ListN.{length, take, drop, set, length-append, length-drop, drop-of-length-le}
+use lib.ListN.{length, take, drop, set, length-append, length-drop, drop-of-length-le, take-append-drop}
 use lib.Seq.{sets, sets-eq, take-all, take-at, drop-at, set-at, drop-cons, drop-drop, append-snoc}
 use Rattle.text.specs.declared.answer.Wrote.{Wrote}
 use Rattle.text.specs.declared.answer.Wrote.the-variants.{Bytes, NoRoom}
 use Rattle.text.specs.Answer.{Front, Put}
+
+-- what is lent as `&mut out[n..]` is all of the rest
+pub rest : (n : ℕ) (l : List ℕ) → take (length l - n) (drop n l) ≡ drop n l
+rest n l = take-all (length l - n) (drop n l) (simp length-drop (omega arith))
 
 module _ {text before after : List ℕ} where
   pub front-length : {n : ℕ} → Front text before after n → length after ≡ length before
@@ -25,8 +29,7 @@ module _ {text before after : List ℕ} where
 
   -- and how much of it is left: a part is handed on as `&mut out[n..]`
   pub front-room : {n m : ℕ} → Front text before after n → n + m ≤ length before → m ≤ length (take (length after - n) (drop n after))
-  front-room {n} f h =
-      rw (take-all (length after - n) (drop n after) (simp length-drop (omega arith)), length-drop) (omega (arith, front-length f))
+  front-room {n} f h = rw (rest n after, length-drop) (omega (arith, front-length f))
 
   -- one byte more
   pub front-more : {n : ℕ} (b : ℕ) → Front text before after n → n < length before → Front (text ++ (b ∷ [])) before (set after n b) (n + 1)
@@ -97,7 +100,7 @@ pub front-then : {T S x₀ x ys : List ℕ} {n k : ℕ} → Front T x₀ x n →
 front-then {T} {S} {x₀} {x} {ys} {n} {k} f g =
     let front : take n x ≡ T = ap (take n) (f .bytes) ∙ take-at T _ n (sym (f .count)) in
     let behind : drop n x ≡ drop n x₀ = ap (drop n) (f .bytes) ∙ drop-at T _ n (sym (f .count)) ∙ ap (λ (m : ℕ). drop m x₀) (sym (f .count)) in
-    let part : take (length x - n) (drop n x) ≡ drop n x₀ = take-all (length x - n) (drop n x) (simp length-drop (omega arith)) ∙ behind in
+    let part : take (length x - n) (drop n x) ≡ drop n x₀ = rest n x ∙ behind in
     let none : drop (length x - n) (drop n x) ≡ [] = drop-of-length-le (drop n x) {i = length x - n} (simp length-drop (omega arith)) in
     let room : length S ≤ length (drop n x₀) = rw part at (g .room) in
     record {
@@ -105,3 +108,14 @@ front-then {T} {S} {x₀} {x} {ys} {n} {k} f g =
       count = omega (arith, length-append T S, f .count, g .count);
       bytes = rw (front, none, g .bytes, part, append-nil, drop-drop, length-append, append-assoc, f .count);
     }
+
+-- what a loop learns of a writer that it lends `&mut out[n..]`: the text stands behind what stood, or there was no room for it
+module _ {T S x₀ x ys : List ℕ} {n : ℕ} {r : Wrote} (f : Front T x₀ x n) (p : Put S (take (length x - n) (drop n x)) ys r) where
+  pub put-then : {k : ℕ} → r ≡ Bytes k → Front (T ++ S) x₀ (take n x ++ (ys ++ drop (length x - n) (drop n x))) (n + k)
+  put-then e = front-then f (put-front p e)
+
+  pub full-then : r ≡ NoRoom → (length x₀ < n + length S) × (take n x ++ (ys ++ drop (length x - n) (drop n x)) ≡ x)
+  full-then e =
+      let q = put-none p e in
+      let less : length (drop n x) < length S = rw (rest n x) at (q .0) in
+      (omega (arith, length-drop n x, front-length f), rw (q .1, take-append-drop, take-append-drop))

@@ -12,6 +12,7 @@ pub enum Wrote {
     NoRoom,
 }
 
+// Bytes as they are.
 fn put_text(out: &mut [u8], text: &[u8]) -> usize
     requires { ⌜ length (now text) ≤ length (now out) ⌝ }
     ensures { λ r. ⌜ Front (now (text .entry)) (now (out .entry)) (now (out .exit)) r ⌝ }
@@ -74,6 +75,7 @@ fn number_of(high: bool) -> u8
     if high { 1 } else { 0 }
 }
 
+// It does not depend on the levels, which are one digit each.
 fn answer_size(code: u8, reply: u8) -> usize
     ensures { λ r. ⌜ ((alert therm : Bool) → r ≡ length (answerText code reply alert therm)) ⌝ }
 {
