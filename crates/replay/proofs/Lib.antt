@@ -1,2 +1,3 @@
--- What is shown of replay.
+-- What is shown of replay, and the laws of its loop.
 pub mod Examples
+pub mod Turns
