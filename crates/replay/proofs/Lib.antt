@@ -1,3 +1,4 @@
 -- What is shown of replay, and the laws of its loop.
 pub mod Examples
+pub mod Plays
 pub mod Turns

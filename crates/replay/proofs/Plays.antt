@@ -1,0 +1,60 @@
+-- A play under way, and its ways on: one turn more, stopped, at the end. The loop's invariant is the record `Mid`. Assumes nothing.
+use Prim.Native.Nat.{ℕ, suc, _+_, _*_, _-_, _≤_, _<_}
+use native.Mathlib.Nat.{sub-zero}
+use native.Mathlib.Omega.{arith}
+use mathlib.Core.Path.{_≡_, refl, sym, ap, _∙_}
+use mathlib.Core.Bool.{Bool, true, false, cond}
+use mathlib.Core.List.{List, [], _∷_, _++_}
+use lib.Dec.{eqb, leb}
+use lib.ListN.{length, take, drop, length-drop, drop-of-length-le, take-append-drop}
+use lib.Seq.{drop-drop}
+use borrow.Author.Tests.{leb-true, ne-eqb}
+use Rattle.rules.specs.declared.state.State.{State}
+use Rattle.text.specs.declared.record.Record.{Record}
+use Rattle.text.specs.declared.record.Parsed.{Parsed}
+use Rattle.text.specs.declared.record.Parsed.the-variants.{Whole, Part, Malformed}
+use Rattle.text.specs.Record.{recordOf}
+use Rattle.text.specs.Answer.{Front}
+use Rattle.text.proofs.Put.{front-held, front-length, front-none, front-then, rest}
+use Rattle.text.proofs.Records.{record-fits}
+use Rattle.replay.specs.declared.play.Played.{Played}
+use Rattle.replay.specs.declared.play.Turn.{Turn}
+use Rattle.replay.specs.declared.play.Turn.the-variants.{Went, Stopped}
+use Rattle.replay.specs.Play.{Ran, Run, Turned, addedFrom, addedOf, answerTo, begun, ended, fitted, put, runFrom, runOf, textOf, turnFrom, turnOf, went}
+
+-- what a turn that went on says of its text and its record
+record Gone (part : List ℕ) (room n k : ℕ) (text : List ℕ) : Type 0 where
+  count : k ≡ length text
+  fits : length text ≤ room
+  long : 19 ≤ n
+  inside : n ≤ length part
+
+gone : (s : State) (part : List ℕ) (room : ℕ) {t : State} {n k : ℕ} → Went t n k ≡ turnOf s part room → Gone part room n k (addedOf s part room)
+unfolding turnOf addedOf
+gone s part room {t} {n} {k} e = by (recordOf part) refl e
+  where
+    by : (p : Parsed) → recordOf part ≡ p → Went t n k ≡ turnFrom s room p → Gone part room n k (addedFrom s room p)
+    by (Whole r m) read e = fit (leb (length (textOf (answerTo s r))) room) refl e
+      where
+        fit : (b : Bool) → leb (length (textOf (answerTo s r))) room ≡ b → Went t n k ≡ cond b (Went (answerTo s r .state) m (length (textOf (answerTo s r)))) (Stopped 8) → Gone part room n k (cond b (textOf (answerTo s r)) [])
+        fit true q e =
+            let same : n ≡ m = cc in
+            let f = record-fits part read in
+            record { count = cc; fits = leb-true _ _ q; long = rw same (f .0); inside = rw same (f .1) }
+        fit false q e = absurd (let z : _≡_ {A = ℕ} 0 1 = cc in omega arith)
+    by Part read e = absurd (let z : _≡_ {A = ℕ} 0 1 = cc in omega arith)
+    by Malformed read e = absurd (let z : _≡_ {A = ℕ} 0 1 = cc in omega arith)
+
+-- a turn that was stopped added nothing
+idle : (s : State) (part : List ℕ) (room : ℕ) {code : ℕ} → Stopped code ≡ turnOf s part room → addedOf s part room ≡ []
+unfolding turnOf addedOf
+idle s part room {code} e = by (recordOf part) e
+  where
+    by : (p : Parsed) → Stopped code ≡ turnFrom s room p → addedFrom s room p ≡ []
+    by (Whole r m) e = fit (leb (length (textOf (answerTo s r))) room) e
+      where
+        fit : (b : Bool) → Stopped code ≡ cond b (Went (answerTo s r .state) m (length (textOf (answerTo s r)))) (Stopped 8) → cond b (textOf (answerTo s r)) [] ≡ []
+        fit true e = absurd (let z : _≡_ {A = ℕ} 0 1 = cc in omega arith)
+        fit false e = refl
+    by Part e = refl
+    by Malformed e = refl
