@@ -8,6 +8,7 @@ use mathlib.Core.List.{List, [], _∷_}
 use lib.Dec.{eqb, leb}
 use lib.ListN.{length, getD, take, drop, length-drop, List·getD-eq-default}
 use lib.Seq.{take-all}
+use lib.IntN.{ℤ}
 use lib.Signed.{mag}
 use borrow.Author.Tests.{leb-false, leb-true, eqb-true, eqb-false}
 use Rattle.text.specs.declared.number.Line.{Line}
@@ -90,3 +91,12 @@ line-between name s = by (fitOf name s) refl
       behind k 2 s (numberOf (drop k s)) (fit-inside name s e) (number-between (drop k s))
   by Begun e = tt
   by No e = tt
+
+-- a line that was read, and one that was read from a place on
+pub read-between : (name s : List ℕ) {v : ℤ} {n : ℕ} → lineOf name s ≡ Is v n → (length name + 2 ≤ n) × (n ≤ length s) × (mag v < 100000)
+read-between name s e = rw e at (line-between name s)
+
+pub read-from : (name s : List ℕ) (at : ℕ) {v : ℤ} {n : ℕ} → at ≤ length s → lineOf name (drop at s) ≡ Is v n → (length name + 2 ≤ n) × (at + n ≤ length s) × (mag v < 100000)
+read-from name s at {v} {n} i e =
+    let b : (length name + 2 ≤ n) × (n ≤ length (drop at s)) × (mag v < 100000) = read-between name (drop at s) e in
+    (b .0, omega (arith, length-drop at s), b .2)

@@ -11,8 +11,6 @@ use Rattle.text.specs.declared.line.Fit.the-variants.{Yes, Begun, No}
 use Rattle.text.specs.Line.{fitOf}
 use Rattle.text.proofs.line.fit_name.Statement.{statement}
 use Rattle.text.proofs.line.fit_name.Tie as tie
-use Rattle.text.proofs.line.fit_name.Reads as reads
-use Rattle.text.proofs.line.fit_name.Lts as lts
 
 abbrev Inv-loop : tie.InvT-loop
 Inv-loop name s i₀ i = (i ≤ length name) × (fitOf name s ≡ fitOf (drop i name) (drop i s))

@@ -12,10 +12,6 @@ use Rattle.text.proofs.Signed.{kept}
 use Rattle.text.proofs.Lines.{rest, Between, number-between, fit-inside}
 use Rattle.text.proofs.line.line.Statement.{statement}
 use Rattle.text.proofs.line.line.Tie as tie
-use Rattle.text.proofs.line.line.Reads as reads
-use Rattle.text.proofs.line.line.Lts as lts
-use Rattle.text.proofs.line.fit_name.Reads as fit-name-reads
-use Rattle.text.proofs.number.number.Reads as number-reads
 
 abbrev start : tie.After-enum-told → tie.Start
 start c = c .before .before .before .before .before

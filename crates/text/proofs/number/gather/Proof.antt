@@ -12,9 +12,6 @@ use Rattle.text.specs.Number.{isDigit, gatherFrom, digitsOf}
 use Rattle.text.proofs.Digits.{grown}
 use Rattle.text.proofs.number.gather.Statement.{statement}
 use Rattle.text.proofs.number.gather.Tie as tie
-use Rattle.text.proofs.number.gather.Reads as reads
-use Rattle.text.proofs.number.gather.Lts as lts
-use Rattle.text.proofs.number.byte.Reads as byte-reads
 
 abbrev Inv-loop : tie.InvT-loop
 Inv-loop s value₀ count₀ value count =

@@ -12,10 +12,6 @@ use Rattle.text.proofs.Signed.{kept}
 use Rattle.text.proofs.Lines.{rest, inside, Between, plain-between}
 use Rattle.text.proofs.number.number.Statement.{statement}
 use Rattle.text.proofs.number.number.Tie as tie
-use Rattle.text.proofs.number.number.Reads as reads
-use Rattle.text.proofs.number.number.Lts as lts
-use Rattle.text.proofs.number.byte.Reads as byte-reads
-use Rattle.text.proofs.number.plain.Reads as plain-reads
 
 returns : tie.Need-returns
 unfolding numberOf

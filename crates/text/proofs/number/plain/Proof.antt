@@ -11,10 +11,6 @@ use Rattle.text.proofs.Digits.{digits-small}
 use Rattle.text.proofs.Signed.{mag-signed, fits, kept, unsigned, negated}
 use Rattle.text.proofs.number.plain.Statement.{statement}
 use Rattle.text.proofs.number.plain.Tie as tie
-use Rattle.text.proofs.number.plain.Reads as reads
-use Rattle.text.proofs.number.plain.Lts as lts
-use Rattle.text.proofs.number.bad_zero.Reads as bad-zero-reads
-use Rattle.text.proofs.number.gather.Reads as gather-reads
 
 small : (c : tie.After-gather) → c .gather .result .value < 100000
 small c = rw (← c .gather .ensures) at (digits-small (c .before .before .args .s .now) .0)
