@@ -16,13 +16,13 @@ use Rattle.text.specs.Number.{isDigit, gatherFrom, digitsOf}
 pub worth : (b : ℕ) → isDigit b ≡ true → b - 48 ≤ 9
 worth b e = by (ltb 57 b) refl (inner (ltb b 48) e)
   where
-  inner : (t : Bool) → cond t false (cond (ltb 57 b) false true) ≡ true → cond (ltb 57 b) false true ≡ true
-  inner true e = absurd (let z : _≡_ {A = ℕ} 0 1 = cc in omega arith)
-  inner false e = e
+    inner : (t : Bool) → cond t false (cond (ltb 57 b) false true) ≡ true → cond (ltb 57 b) false true ≡ true
+    inner true e = absurd (let z : _≡_ {A = ℕ} 0 1 = cc in omega arith)
+    inner false e = e
 
-  by : (t : Bool) → ltb 57 b ≡ t → cond t false true ≡ true → b - 48 ≤ 9
-  by true f e = absurd (let z : _≡_ {A = ℕ} 0 1 = cc in omega arith)
-  by false f e = omega (arith, ltb-false 57 b f)
+    by : (t : Bool) → ltb 57 b ≡ t → cond t false true ≡ true → b - 48 ≤ 9
+    by true f e = absurd (let z : _≡_ {A = ℕ} 0 1 = cc in omega arith)
+    by false f e = omega (arith, ltb-false 57 b f)
 
 -- one digit more
 pub grown : (v n b : ℕ) → v < 10 ^ n → isDigit b ≡ true → v * 10 + (b - 48) < 10 ^ suc n
@@ -36,14 +36,14 @@ unfolding Bounded
 bounded zero v n s h = rw zero-add (h, le-refl n)
 bounded (suc room) v n s h = by (isDigit (getD s n 0)) refl (λ d. bounded room (v * 10 + (getD s n 0 - 48)) (n + 1) s (rw add-one (grown v n (getD s n 0) h d)))
   where
-  more : suc room + n ≡ room + (n + 1)
-  more = omega arith
+    more : suc room + n ≡ room + (n + 1)
+    more = omega arith
 
-  by : (t : Bool) → isDigit (getD s n 0) ≡ t
-    → (isDigit (getD s n 0) ≡ true → Bounded (room + (n + 1)) (gatherFrom room (v * 10 + (getD s n 0 - 48)) (n + 1) s))
-    → Bounded (suc room + n) (cond t (gatherFrom room (v * 10 + (getD s n 0 - 48)) (n + 1) s) (record { value = v; count = n }))
-  by true d ih = rw more (ih d)
-  by false d ih = (lt-of-lt-of-le h (pow-le-pow-right (omega arith) (omega arith)), omega arith)
+    by : (t : Bool) → isDigit (getD s n 0) ≡ t
+        → (isDigit (getD s n 0) ≡ true → Bounded (room + (n + 1)) (gatherFrom room (v * 10 + (getD s n 0 - 48)) (n + 1) s))
+        → Bounded (suc room + n) (cond t (gatherFrom room (v * 10 + (getD s n 0 - 48)) (n + 1) s) (record { value = v; count = n }))
+    by true d ih = rw more (ih d)
+    by false d ih = (lt-of-lt-of-le h (pow-le-pow-right (omega arith) (omega arith)), omega arith)
 
 -- at most five digits
 pub digits-small : (s : List ℕ) → (digitsOf s .value < 100000) × (digitsOf s .count ≤ 5)

@@ -2,3 +2,4 @@
 pub mod Digits
 pub mod Signed
 pub mod Lines
+pub mod Records

@@ -33,9 +33,9 @@ rest a s = take-all (length s - a) (drop a s) (rw length-drop (omega arith))
 pub inside : (s : List ℕ) (i : ℕ) {b : ℕ} → getD s i 0 ≡ suc b → i < length s
 inside s i {b} e = by (leb (length s) i) refl
   where
-  by : (t : Bool) → leb (length s) i ≡ t → i < length s
-  by true f = absurd (let z : getD s i 0 ≡ 0 = List·getD-eq-default s 0 (leb-true _ _ f) in omega arith)
-  by false f = leb-false _ _ f
+    by : (t : Bool) → leb (length s) i ≡ t → i < length s
+    by true f = absurd (let z : getD s i 0 ≡ 0 = List·getD-eq-default s 0 (leb-true _ _ f) in omega arith)
+    by false f = leb-false _ _ f
 
 abbrev pub Between : ℕ → ℕ → Line → Type 0
 Between low high (Is v n) = (low ≤ n) × (n ≤ high) × (mag v < 100000)
@@ -77,20 +77,20 @@ fit-inside [] s e = omega arith
 fit-inside (x ∷ xs) [] e = absurd (let z : _≡_ {A = ℕ} 0 1 = cc in omega arith)
 fit-inside (x ∷ xs) (y ∷ ys) e = by (eqb x y) e (fit-inside xs ys)
   where
-  by : (t : Bool) → cond t (fitOf xs ys) No ≡ Yes → (fitOf xs ys ≡ Yes → length xs ≤ length ys) → suc (length xs) ≤ suc (length ys)
-  by true e ih = omega (arith, ih e)
-  by false e ih = absurd (let z : _≡_ {A = ℕ} 0 1 = cc in omega arith)
+    by : (t : Bool) → cond t (fitOf xs ys) No ≡ Yes → (fitOf xs ys ≡ Yes → length xs ≤ length ys) → suc (length xs) ≤ suc (length ys)
+    by true e ih = omega (arith, ih e)
+    by false e ih = absurd (let z : _≡_ {A = ℕ} 0 1 = cc in omega arith)
 
 pub line-between : (name s : List ℕ) → Between (length name + 2) (length s) (lineOf name s)
 unfolding lineOf
 line-between name s = by (fitOf name s) refl
   where
-  by : (f : Fit) → fitOf name s ≡ f → Between (length name + 2) (length s) (behindName f name s)
-  by Yes e =
-      let k = length name in
-      behind k 2 s (numberOf (drop k s)) (fit-inside name s e) (number-between (drop k s))
-  by Begun e = tt
-  by No e = tt
+    by : (f : Fit) → fitOf name s ≡ f → Between (length name + 2) (length s) (behindName f name s)
+    by Yes e =
+        let k = length name in
+        behind k 2 s (numberOf (drop k s)) (fit-inside name s e) (number-between (drop k s))
+    by Begun e = tt
+    by No e = tt
 
 -- a line that was read, and one that was read from a place on
 pub read-between : (name s : List ℕ) {v : ℤ} {n : ℕ} → lineOf name s ≡ Is v n → (length name + 2 ≤ n) × (n ≤ length s) × (mag v < 100000)

@@ -25,18 +25,18 @@ room c = fit-inside _ _ (named c)
 
 -- what stands behind it
 behind : (c : tie.After-number)
-  → let d = start (c .before .before) in c .number .result ≡ numberOf (drop (length (d .args .name .now)) (d .args .s .now))
+    → let d = start (c .before .before) in c .number .result ≡ numberOf (drop (length (d .args .name .now)) (d .args .s .now))
 behind c =
     let d = start (c .before .before) in
     c .number .ensures ∙ rw (rest (length (d .args .name .now)) (d .args .s .now))
 
 read : (c : tie.After-number)
-  → let d = start (c .before .before) in lineOf (d .args .name .now) (d .args .s .now) ≡ longer (length (d .args .name .now)) (c .number .result)
+    → let d = start (c .before .before) in lineOf (d .args .name .now) (d .args .s .now) ≡ longer (length (d .args .name .now)) (c .number .result)
 unfolding lineOf
 read c = rw (behind c, named (c .before .before))
 
 between : (c : tie.After-v)
-  → let d = start (c .before .before .before .before) in
+    → let d = start (c .before .before .before .before) in
     Between 2 (length (drop (length (d .args .name .now)) (d .args .s .now))) (Is (c .v .given .0 .0) (c .v .given .0 .1 .0))
 between c =
     let d = start (c .before .before .before .before) in

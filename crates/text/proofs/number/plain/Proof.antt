@@ -37,7 +37,7 @@ returns-4 c =
 
 -- the line is whole
 whole : (c : tie.Else4)
-  → let g = c .before .before .before .before .before .before in
+    → let g = c .before .before .before .before .before .before in
     plainOf (g .before .before .args .minus) (g .before .before .args .s .now) ≡ Is (signedAs (g .before .before .args .minus) (g .gather .result .value)) (g .gather .result .count + 1)
 unfolding plainOf
 whole c =
