@@ -1,6 +1,6 @@
 -- What is known of a line that was read: its length lies between bounds and its number is small. By the definitions' tests.
 -- Assumes nothing.
-use Prim.Native.Nat.{ℕ, zero, suc, _+_, _-_, _≤_, _<_}
+use Prim.Native.Nat.{ℕ, suc, _+_, _-_, _≤_, _<_}
 use native.Mathlib.Omega.{arith}
 use mathlib.Core.Path.{_≡_, refl}
 use mathlib.Core.Bool.{Bool, true, false, cond}
@@ -15,15 +15,11 @@ use Rattle.text.specs.declared.number.Line.{Line}
 use Rattle.text.specs.declared.number.Line.the-variants.{Is, Short, Never}
 use Rattle.text.specs.declared.line.Fit.{Fit}
 use Rattle.text.specs.declared.line.Fit.the-variants.{Yes, Begun, No}
-use Rattle.text.specs.Number.{digitsOf, badZero, signedAs, plainOf, longer, numberOf}
+use Rattle.text.specs.Number.{digitsOf, badZero, plainOf, longer, numberOf}
 use Rattle.text.specs.Line.{fitOf, behindName, lineOf}
+use Rattle.text.proofs.Choice.{choice}
 use Rattle.text.proofs.Digits.{digits-small}
 use Rattle.text.proofs.Signed.{mag-signed}
-
--- what holds on both sides of a test, each with what the test says
-pub choice : {A : Type 0} (P : A → Type 0) (t : Bool) {x y : A} → (t ≡ true → P x) → (t ≡ false → P y) → P (cond t x y)
-choice P true p q = p refl
-choice P false p q = q refl
 
 -- a part that goes to the end
 pub rest : (a : ℕ) (s : List ℕ) → take (length s - a) (drop a s) ≡ drop a s

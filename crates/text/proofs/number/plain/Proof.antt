@@ -1,6 +1,6 @@
 -- `number::plain` meets its contract: each way out is the definition's by the tests on it. Assumes nothing.
 use Prim.Native.Nat.{_+_, _<_}
-use mathlib.Core.Path.{_≡_, sym, _∙_}
+use mathlib.Core.Path.{_≡_}
 use mathlib.Core.Bool.{true}
 use lib.IntN.ℤ.{pos}
 use borrow.Author.Needs.{needs}
