@@ -6,8 +6,7 @@ use mathlib.Core.Path.{_≡_, refl}
 use mathlib.Core.Bool.{Bool, true, false, cond}
 use mathlib.Core.List.{List, [], _∷_}
 use lib.Dec.{eqb, leb}
-use lib.ListN.{length, getD, take, drop, length-drop, List·getD-eq-default}
-use lib.Seq.{take-all}
+use lib.ListN.{length, getD, drop, length-drop, List·getD-eq-default}
 use lib.IntN.{ℤ}
 use lib.Signed.{mag}
 use borrow.Author.Tests.{leb-false, leb-true, eqb-true, eqb-false}
@@ -20,10 +19,6 @@ use Rattle.text.specs.Line.{fitOf, behindName, lineOf}
 use Rattle.text.proofs.Choice.{choice}
 use Rattle.text.proofs.Digits.{digits-small}
 use Rattle.text.proofs.Signed.{mag-signed}
-
--- a part that goes to the end
-pub rest : (a : ℕ) (s : List ℕ) → take (length s - a) (drop a s) ≡ drop a s
-rest a s = take-all (length s - a) (drop a s) (rw length-drop (omega arith))
 
 -- past the end a byte reads as 0
 pub inside : (s : List ℕ) (i : ℕ) {b : ℕ} → getD s i 0 ≡ suc b → i < length s

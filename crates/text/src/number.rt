@@ -16,6 +16,7 @@ pub enum Line {
     Never,
 }
 
+// Past the end a byte reads as 0, which is no digit and no sign.
 fn byte(s: &[u8], i: usize) -> u8
     ensures { λ r. ⌜ r ≡ getD (now (s .entry)) i 0 ⌝ }
 {
@@ -42,12 +43,14 @@ fn gather(s: &[u8]) -> Digits
     Digits { value, count }
 }
 
+// A first digit 0 where the number has no right to it.
 fn bad_zero(minus: bool, s: &[u8], count: usize) -> bool
     ensures { λ r. ⌜ r ≡ badZero minus (now (s .entry)) count ⌝ }
 {
     (byte(s, 0) == 48) & (minus | (1 < count))
 }
 
+// A number behind its sign, and the end of its line.
 fn plain(minus: bool, s: &[u8]) -> Line
     ensures { λ r. ⌜ r ≡ plainOf minus (now (s .entry)) ⌝ }
 {

@@ -30,6 +30,7 @@ fn refused(l: Line) -> Parsed
     }
 }
 
+// The part starts at the current place, and each line is read from where the one before it ended.
 pub fn read_record(s: &[u8]) -> Parsed
     ensures { λ r. ⌜ r ≡ recordOf (now (s .entry)) ⌝ }
 {
