@@ -3,16 +3,26 @@ use Prim.Native.Nat.{ℕ, zero, suc, _+_, _*_, _-_, _^_, _≤_, _<_}
 use native.Mathlib.Nat.{pow-suc, pow-le-pow-right, lt-of-lt-of-le, le-refl, zero-add}
 use native.Mathlib.Numerals.{add-one}
 use native.Mathlib.Omega.{arith}
+<<<<<<< HEAD
 use mathlib.Core.Path.{_≡_, refl}
 use mathlib.Core.Bool.{Bool, true, false, cond}
+=======
+use mathlib.Core.Path.{_≡_}
+use mathlib.Core.Bool.{Bool, true, false≢true}
+>>>>>>> 57d1c8316797dc7d2e3af3b54fa5a510bce210b2
 use mathlib.Core.List.{List}
 use lib.Dec.{ltb}
 use lib.ListN.{getD}
 use borrow.Author.Tests.{ltb-false}
+<<<<<<< HEAD
+=======
+use Rattle.text.proofs.Choice.{choice}
+>>>>>>> 57d1c8316797dc7d2e3af3b54fa5a510bce210b2
 use Rattle.text.specs.declared.number.Digits.{Digits}
 use Rattle.text.specs.Number.{isDigit, gatherFrom, digitsOf}
 
 -- a digit is worth at most 9
+<<<<<<< HEAD
 pub worth : (b : ℕ) → isDigit b ≡ true → b - 48 ≤ 9
 worth b e = by (ltb 57 b) refl (inner (ltb b 48) e)
   where
@@ -23,11 +33,21 @@ worth b e = by (ltb 57 b) refl (inner (ltb b 48) e)
     by : (t : Bool) → ltb 57 b ≡ t → cond t false true ≡ true → b - 48 ≤ 9
     by true f e = absurd (let z : _≡_ {A = ℕ} 0 1 = cc in omega arith)
     by false f e = omega (arith, ltb-false 57 b f)
+=======
+worth : (b : ℕ) → isDigit b ≡ true → b - 48 ≤ 9
+worth b =
+    choice At-most (ltb b 48) (λ f e. absurd (false≢true e))
+    (λ f. choice At-most (ltb 57 b) (λ g e. absurd (false≢true e)) (λ g e. omega (arith, ltb-false 57 b g)))
+  where
+    At-most : Bool → Type 0
+    At-most t = t ≡ true → b - 48 ≤ 9
+>>>>>>> 57d1c8316797dc7d2e3af3b54fa5a510bce210b2
 
 -- one digit more
 pub grown : (v n b : ℕ) → v < 10 ^ n → isDigit b ≡ true → v * 10 + (b - 48) < 10 ^ suc n
 grown v n b h e = let d : b - 48 ≤ 9 = worth b e in rw pow-suc (omega arith)
 
+<<<<<<< HEAD
 pub Bounded : ℕ → Digits → Type 0
 Bounded n d = (d .value < 10 ^ n) × (d .count ≤ n)
 
@@ -48,4 +68,20 @@ bounded (suc room) v n s h = by (isDigit (getD s n 0)) refl (λ d. bounded room 
 -- at most five digits
 pub digits-small : (s : List ℕ) → (digitsOf s .value < 100000) × (digitsOf s .count ≤ 5)
 unfolding Bounded digitsOf
+=======
+abbrev Bounded : ℕ → Digits → Type 0
+Bounded n d = (d .value < 10 ^ n) × (d .count ≤ n)
+
+bounded : (room v n : ℕ) (s : List ℕ) → v < 10 ^ n → Bounded (room + n) (gatherFrom room v n s)
+bounded zero v n s h = rw zero-add (h, le-refl n)
+bounded (suc room) v n s h =
+    let more : suc room + n ≡ room + (n + 1) = omega arith in
+    choice (Bounded (suc room + n)) (isDigit (getD s n 0))
+    (λ d. rw more (bounded room (v * 10 + (getD s n 0 - 48)) (n + 1) s (rw add-one (grown v n (getD s n 0) h d))))
+    (λ d. (lt-of-lt-of-le h (pow-le-pow-right (omega arith) (omega arith)), omega arith))
+
+-- at most five digits
+pub digits-small : (s : List ℕ) → (digitsOf s .value < 100000) × (digitsOf s .count ≤ 5)
+unfolding digitsOf
+>>>>>>> 57d1c8316797dc7d2e3af3b54fa5a510bce210b2
 digits-small s = bounded 5 0 0 s (omega arith)
