@@ -58,3 +58,56 @@ idle s part room {code} e = by (recordOf part) e
         fit false e = refl
     by Part e = refl
     by Malformed e = refl
+
+-- under way: so many records, trace bytes and output bytes, and the text that stands at the output's front
+pub record Mid (s : State) (t x₀ x : List ℕ) (now : State) (n u w : ℕ) : Type 0 where
+  pub text : List ℕ
+  pub front : Front text x₀ x w
+  pub inside : u ≤ length t
+  pub few : 19 * n ≤ u
+  pub goes : runOf s t (length x₀) ≡ runFrom (length t - n) (record { code = 0; records = n; used = u; text = text; state = now }) (drop u t) (length x₀ - w)
+
+pub mid-start : (s : State) (t x : List ℕ) → Mid s t x x s 0 0 0
+unfolding runOf
+mid-start s t x =
+    record { text = []; front = front-none; inside = omega arith; few = omega arith; goes = rw (sub-zero, sub-zero) }
+
+-- what is left of the trace, and of the output
+module _ {s : State} {t x₀ x : List ℕ} {now : State} {n u w : ℕ} (m : Mid s t x₀ x now n u w) where
+  abbrev here : Run
+  here = record { code = 0; records = n; used = u; text = m .text; state = now }
+
+  room : length (take (length x - w) (drop w x)) ≡ length x₀ - w
+  room = rw (rest w x, length-drop, front-length (m .front))
+
+  -- one step of the definition, where something is left
+  module _ (left : u < length t) where
+    fuel : length t - n ≡ suc (length t - (n + 1))
+    fuel = omega (arith, m .few)
+
+    more : eqb (length (drop u t)) 0 ≡ false
+    more = ne-eqb _ _ (rw length-drop (omega arith))
+
+    module _ {ys : List ℕ} where
+      abbrev lent : List ℕ
+      lent = take (length x - w) (drop w x)
+
+      abbrev rest-of : List ℕ
+      rest-of = take (length t - u) (drop u t)
+
+      abbrev after : List ℕ
+      after = take w x ++ (ys ++ drop (length x - w) (drop w x))
+
+      pub mid-step : {later : State} {k j : ℕ} → Turned now rest-of lent ys (Went later k j) → Mid s t x₀ after later (n + 1) (u + k) (w + j)
+      unfolding runFrom
+      mid-step {later} {k} {j} turn =
+          let g = gone now rest-of (length lent) (turn .said) in
+          let said : Went later k j ≡ turnOf now (drop u t) (length x₀ - w) = rw (rest u t, room) at (turn .said) in
+          let added : addedOf now rest-of (length lent) ≡ addedOf now (drop u t) (length x₀ - w) = rw (rest u t, room) in
+          record {
+            text = m .text ++ addedOf now rest-of (length lent);
+            front = front-then (m .front) (record { room = g .fits; count = g .count; bytes = turn .bytes });
+            inside = ?;
+            few = ?;
+            goes = m .goes ∙ ?;
+          }

@@ -3,37 +3,17 @@ use Prim.Native.Nat.{ℕ, zero, suc, _+_, _*_, _-_, _^_, _≤_, _<_}
 use native.Mathlib.Nat.{pow-suc, pow-le-pow-right, lt-of-lt-of-le, le-refl, zero-add}
 use native.Mathlib.Numerals.{add-one}
 use native.Mathlib.Omega.{arith}
-<<<<<<< HEAD
-use mathlib.Core.Path.{_≡_, refl}
-use mathlib.Core.Bool.{Bool, true, false, cond}
-=======
 use mathlib.Core.Path.{_≡_}
 use mathlib.Core.Bool.{Bool, true, false≢true}
->>>>>>> 57d1c8316797dc7d2e3af3b54fa5a510bce210b2
 use mathlib.Core.List.{List}
 use lib.Dec.{ltb}
 use lib.ListN.{getD}
 use borrow.Author.Tests.{ltb-false}
-<<<<<<< HEAD
-=======
 use Rattle.text.proofs.Choice.{choice}
->>>>>>> 57d1c8316797dc7d2e3af3b54fa5a510bce210b2
 use Rattle.text.specs.declared.number.Digits.{Digits}
 use Rattle.text.specs.Number.{isDigit, gatherFrom, digitsOf}
 
 -- a digit is worth at most 9
-<<<<<<< HEAD
-pub worth : (b : ℕ) → isDigit b ≡ true → b - 48 ≤ 9
-worth b e = by (ltb 57 b) refl (inner (ltb b 48) e)
-  where
-    inner : (t : Bool) → cond t false (cond (ltb 57 b) false true) ≡ true → cond (ltb 57 b) false true ≡ true
-    inner true e = absurd (let z : _≡_ {A = ℕ} 0 1 = cc in omega arith)
-    inner false e = e
-
-    by : (t : Bool) → ltb 57 b ≡ t → cond t false true ≡ true → b - 48 ≤ 9
-    by true f e = absurd (let z : _≡_ {A = ℕ} 0 1 = cc in omega arith)
-    by false f e = omega (arith, ltb-false 57 b f)
-=======
 worth : (b : ℕ) → isDigit b ≡ true → b - 48 ≤ 9
 worth b =
     choice At-most (ltb b 48) (λ f e. absurd (false≢true e))
@@ -41,34 +21,11 @@ worth b =
   where
     At-most : Bool → Type 0
     At-most t = t ≡ true → b - 48 ≤ 9
->>>>>>> 57d1c8316797dc7d2e3af3b54fa5a510bce210b2
 
 -- one digit more
 pub grown : (v n b : ℕ) → v < 10 ^ n → isDigit b ≡ true → v * 10 + (b - 48) < 10 ^ suc n
 grown v n b h e = let d : b - 48 ≤ 9 = worth b e in rw pow-suc (omega arith)
 
-<<<<<<< HEAD
-pub Bounded : ℕ → Digits → Type 0
-Bounded n d = (d .value < 10 ^ n) × (d .count ≤ n)
-
-bounded : (room v n : ℕ) (s : List ℕ) → v < 10 ^ n → Bounded (room + n) (gatherFrom room v n s)
-unfolding Bounded
-bounded zero v n s h = rw zero-add (h, le-refl n)
-bounded (suc room) v n s h = by (isDigit (getD s n 0)) refl (λ d. bounded room (v * 10 + (getD s n 0 - 48)) (n + 1) s (rw add-one (grown v n (getD s n 0) h d)))
-  where
-    more : suc room + n ≡ room + (n + 1)
-    more = omega arith
-
-    by : (t : Bool) → isDigit (getD s n 0) ≡ t
-        → (isDigit (getD s n 0) ≡ true → Bounded (room + (n + 1)) (gatherFrom room (v * 10 + (getD s n 0 - 48)) (n + 1) s))
-        → Bounded (suc room + n) (cond t (gatherFrom room (v * 10 + (getD s n 0 - 48)) (n + 1) s) (record { value = v; count = n }))
-    by true d ih = rw more (ih d)
-    by false d ih = (lt-of-lt-of-le h (pow-le-pow-right (omega arith) (omega arith)), omega arith)
-
--- at most five digits
-pub digits-small : (s : List ℕ) → (digitsOf s .value < 100000) × (digitsOf s .count ≤ 5)
-unfolding Bounded digitsOf
-=======
 abbrev Bounded : ℕ → Digits → Type 0
 Bounded n d = (d .value < 10 ^ n) × (d .count ≤ n)
 
@@ -83,5 +40,4 @@ bounded (suc room) v n s h =
 -- at most five digits
 pub digits-small : (s : List ℕ) → (digitsOf s .value < 100000) × (digitsOf s .count ≤ 5)
 unfolding digitsOf
->>>>>>> 57d1c8316797dc7d2e3af3b54fa5a510bce210b2
 digits-small s = bounded 5 0 0 s (omega arith)

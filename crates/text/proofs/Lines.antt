@@ -1,21 +1,12 @@
 -- What is known of a line that was read: its length lies between bounds and its number is small. By the definitions' tests.
 -- Assumes nothing.
-<<<<<<< HEAD
-use Prim.Native.Nat.{ℕ, zero, suc, _+_, _-_, _≤_, _<_}
-=======
 use Prim.Native.Nat.{ℕ, suc, _+_, _-_, _≤_, _<_}
->>>>>>> 57d1c8316797dc7d2e3af3b54fa5a510bce210b2
 use native.Mathlib.Omega.{arith}
 use mathlib.Core.Path.{_≡_, refl}
 use mathlib.Core.Bool.{Bool, true, false, cond}
 use mathlib.Core.List.{List, [], _∷_}
 use lib.Dec.{eqb, leb}
-<<<<<<< HEAD
-use lib.ListN.{length, getD, take, drop, length-drop, List·getD-eq-default}
-use lib.Seq.{take-all}
-=======
 use lib.ListN.{length, getD, drop, length-drop, List·getD-eq-default}
->>>>>>> 57d1c8316797dc7d2e3af3b54fa5a510bce210b2
 use lib.IntN.{ℤ}
 use lib.Signed.{mag}
 use borrow.Author.Tests.{leb-false, leb-true, eqb-true, eqb-false}
@@ -23,29 +14,12 @@ use Rattle.text.specs.declared.number.Line.{Line}
 use Rattle.text.specs.declared.number.Line.the-variants.{Is, Short, Never}
 use Rattle.text.specs.declared.line.Fit.{Fit}
 use Rattle.text.specs.declared.line.Fit.the-variants.{Yes, Begun, No}
-<<<<<<< HEAD
-use Rattle.text.specs.Number.{digitsOf, badZero, signedAs, plainOf, longer, numberOf}
-use Rattle.text.specs.Line.{fitOf, behindName, lineOf}
-use Rattle.text.proofs.Digits.{digits-small}
-use Rattle.text.proofs.Signed.{mag-signed}
-
--- what holds on both sides of a test, each with what the test says
-pub choice : {A : Type 0} (P : A → Type 0) (t : Bool) {x y : A} → (t ≡ true → P x) → (t ≡ false → P y) → P (cond t x y)
-choice P true p q = p refl
-choice P false p q = q refl
-
--- a part that goes to the end
-pub rest : (a : ℕ) (s : List ℕ) → take (length s - a) (drop a s) ≡ drop a s
-rest a s = take-all (length s - a) (drop a s) (rw length-drop (omega arith))
-
-=======
 use Rattle.text.specs.Number.{digitsOf, badZero, plainOf, longer, numberOf}
 use Rattle.text.specs.Line.{fitOf, behindName, lineOf}
 use Rattle.text.proofs.Choice.{choice}
 use Rattle.text.proofs.Digits.{digits-small}
 use Rattle.text.proofs.Signed.{mag-signed}
 
->>>>>>> 57d1c8316797dc7d2e3af3b54fa5a510bce210b2
 -- past the end a byte reads as 0
 pub inside : (s : List ℕ) (i : ℕ) {b : ℕ} → getD s i 0 ≡ suc b → i < length s
 inside s i {b} e = by (leb (length s) i) refl

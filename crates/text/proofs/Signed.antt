@@ -3,13 +3,8 @@ use Prim.Native.Nat.{ℕ, zero, suc, _<_}
 use native.Mathlib.Omega.{arith}
 use mathlib.Core.Path.{_≡_}
 use mathlib.Core.Bool.{Bool, true, false}
-<<<<<<< HEAD
-use lib.IntN.{ℤ, negℤ, _-ℤ_, +ℤ-idl}
-use lib.IntN.ℤ.{pos, negsuc}
-=======
 use lib.IntN.{ℤ, _-ℤ_, +ℤ-idl}
 use lib.IntN.ℤ.{pos}
->>>>>>> 57d1c8316797dc7d2e3af3b54fa5a510bce210b2
 use lib.Signed.{mag}
 use mir.Syntax.{w32}
 use mir.Val.{SFits, toZ, ofZ}

@@ -16,10 +16,7 @@ pub enum Line {
     Never,
 }
 
-<<<<<<< HEAD
-=======
 // Past the end a byte reads as 0, which is no digit and no sign.
->>>>>>> 57d1c8316797dc7d2e3af3b54fa5a510bce210b2
 fn byte(s: &[u8], i: usize) -> u8
     ensures { λ r. ⌜ r ≡ getD (now (s .entry)) i 0 ⌝ }
 {
@@ -46,20 +43,14 @@ fn gather(s: &[u8]) -> Digits
     Digits { value, count }
 }
 
-<<<<<<< HEAD
-=======
 // A first digit 0 where the number has no right to it.
->>>>>>> 57d1c8316797dc7d2e3af3b54fa5a510bce210b2
 fn bad_zero(minus: bool, s: &[u8], count: usize) -> bool
     ensures { λ r. ⌜ r ≡ badZero minus (now (s .entry)) count ⌝ }
 {
     (byte(s, 0) == 48) & (minus | (1 < count))
 }
 
-<<<<<<< HEAD
-=======
 // A number behind its sign, and the end of its line.
->>>>>>> 57d1c8316797dc7d2e3af3b54fa5a510bce210b2
 fn plain(minus: bool, s: &[u8]) -> Line
     ensures { λ r. ⌜ r ≡ plainOf minus (now (s .entry)) ⌝ }
 {

@@ -30,10 +30,7 @@ fn refused(l: Line) -> Parsed
     }
 }
 
-<<<<<<< HEAD
-=======
 // The part starts at the current place, and each line is read from where the one before it ended.
->>>>>>> 57d1c8316797dc7d2e3af3b54fa5a510bce210b2
 pub fn read_record(s: &[u8]) -> Parsed
     ensures { λ r. ⌜ r ≡ recordOf (now (s .entry)) ⌝ }
 {

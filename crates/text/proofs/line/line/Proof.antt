@@ -1,10 +1,4 @@
 -- `line::line` meets its contract: what comes behind the name fits in what is left. Assumes nothing.
-<<<<<<< HEAD
-use Prim.Native.Nat.{_≤_}
-use native.Mathlib.Omega.{arith}
-use mathlib.Core.Path.{_≡_, sym, _∙_}
-use lib.ListN.{length, drop, length-drop}
-=======
 use Prim.Native.Nat.{_+_, _≤_}
 use native.Mathlib.Omega.{arith}
 use mathlib.Core.Path.{_≡_, sym, _∙_}
@@ -12,18 +6,13 @@ use lib.ListN.{length, drop, length-drop}
 use mir.Syntax.{w64}
 use mir.Val.{Fits}
 use borrow.Rule.Slice.PartAt.{part-to-end}
->>>>>>> 57d1c8316797dc7d2e3af3b54fa5a510bce210b2
 use borrow.Author.Needs.{needs}
 use Rattle.text.specs.declared.number.Line.the-variants.{Is}
 use Rattle.text.specs.Number.{longer, numberOf}
 use Rattle.text.specs.declared.line.Fit.the-variants.{Yes}
 use Rattle.text.specs.Line.{fitOf, lineOf}
 use Rattle.text.proofs.Signed.{kept}
-<<<<<<< HEAD
-use Rattle.text.proofs.Lines.{rest, Between, number-between, fit-inside}
-=======
 use Rattle.text.proofs.Lines.{Between, number-between, fit-inside}
->>>>>>> 57d1c8316797dc7d2e3af3b54fa5a510bce210b2
 use Rattle.text.proofs.line.line.Statement.{statement}
 use Rattle.text.proofs.line.line.Tie as tie
 
@@ -42,11 +31,7 @@ behind : (c : tie.After-number)
     → let d = start (c .before .before) in c .number .result ≡ numberOf (drop (length (d .args .name .now)) (d .args .s .now))
 behind c =
     let d = start (c .before .before) in
-<<<<<<< HEAD
-    c .number .ensures ∙ rw (rest (length (d .args .name .now)) (d .args .s .now))
-=======
     c .number .ensures ∙ rw (part-to-end (d .args .s .now) (length (d .args .name .now)))
->>>>>>> 57d1c8316797dc7d2e3af3b54fa5a510bce210b2
 
 read : (c : tie.After-number)
     → let d = start (c .before .before) in lineOf (d .args .name .now) (d .args .s .now) ≡ longer (length (d .args .name .now)) (c .number .result)
@@ -60,13 +45,8 @@ between c =
     let d = start (c .before .before .before .before) in
     rw (← behind (c .before .before), c .v .given .1) at (number-between (drop (length (d .args .name .now)) (d .args .s .now)))
 
-<<<<<<< HEAD
-add-t14 : tie.Need-add-t14
-add-t14 c =
-=======
 fits : (c : tie.After-known-told) → Fits w64 (length (start (c .before .before .before .before .before) .args .name .now) + c .before .v .given .0 .1 .0)
 fits c =
->>>>>>> 57d1c8316797dc7d2e3af3b54fa5a510bce210b2
     let e = c .before .before .before .before .before in
     let d = start e in
     omega (arith, between (c .before), length-drop (length (d .args .name .now)) (d .args .s .now), room e, d .good)
@@ -100,11 +80,7 @@ line-spec =
     (λ c. search needs)
     (λ c κs. tt)
     (λ c. search needs)
-<<<<<<< HEAD
-    add-t14
-=======
     fits
->>>>>>> 57d1c8316797dc7d2e3af3b54fa5a510bce210b2
     (λ c. search needs)
     (λ c. search needs)
     (λ c. search needs)

@@ -6,11 +6,7 @@ use native.Mathlib.Omega.{arith}
 use mathlib.Core.Path.{_≡_, refl, sym, _∙_}
 use mathlib.Core.Bool.{true, false}
 use mathlib.Core.List.{List}
-<<<<<<< HEAD
-use lib.ListN.{getD, length, List·getD-eq-default}
-=======
 use lib.ListN.{getD}
->>>>>>> 57d1c8316797dc7d2e3af3b54fa5a510bce210b2
 use borrow.Author.Tests.{lt-ltb, le-ltb}
 use Rattle.text.specs.Number.{isDigit, gatherFrom, digitsOf}
 use Rattle.text.proofs.Digits.{grown}

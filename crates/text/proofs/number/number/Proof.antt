@@ -4,22 +4,15 @@ use native.Mathlib.Omega.{arith}
 use mathlib.Core.Path.{_≡_, sym, _∙_}
 use mathlib.Core.Bool.{true}
 use lib.ListN.{length, drop, length-drop}
-<<<<<<< HEAD
-=======
 use mir.Syntax.{w64}
 use mir.Val.{Fits}
 use borrow.Rule.Slice.PartAt.{part-to-end}
->>>>>>> 57d1c8316797dc7d2e3af3b54fa5a510bce210b2
 use borrow.Author.Needs.{needs}
 use borrow.Author.Tests.{eq-eqb, ne-eqb}
 use Rattle.text.specs.Number.{plainOf, longer, numberOf}
 use Rattle.text.specs.declared.number.Line.the-variants.{Is}
 use Rattle.text.proofs.Signed.{kept}
-<<<<<<< HEAD
-use Rattle.text.proofs.Lines.{rest, inside, Between, plain-between}
-=======
 use Rattle.text.proofs.Lines.{inside, Between, plain-between}
->>>>>>> 57d1c8316797dc7d2e3af3b54fa5a510bce210b2
 use Rattle.text.proofs.number.number.Statement.{statement}
 use Rattle.text.proofs.number.number.Tie as tie
 
@@ -27,20 +20,13 @@ returns : tie.Need-returns
 unfolding numberOf
 returns c = rw (c .plain .ensures, ← c .before .before .byte .ensures, ne-eqb _ _ (c .before .if1 .taken))
 
-<<<<<<< HEAD
-=======
 -- the sign is there
->>>>>>> 57d1c8316797dc7d2e3af3b54fa5a510bce210b2
 some : (c : tie.Else1) → 1 ≤ length (c .before .before .before .args .s .now)
 some c = inside (c .before .before .before .args .s .now) 0 (sym (c .before .byte .ensures) ∙ c .if1 .left)
 
 -- what stands behind the sign
 behind : (c : tie.After-plain2) → c .plain2 .result ≡ plainOf true (drop 1 (c .before .before .before .before .before .args .s .now))
-<<<<<<< HEAD
-behind c = c .plain2 .ensures ∙ rw (rest 1 (c .before .before .before .before .before .args .s .now))
-=======
 behind c = c .plain2 .ensures ∙ rw (part-to-end (c .before .before .before .before .before .args .s .now) 1)
->>>>>>> 57d1c8316797dc7d2e3af3b54fa5a510bce210b2
 
 signed : (c : tie.After-plain2) → numberOf (c .before .before .before .before .before .args .s .now) ≡ longer 1 (c .plain2 .result)
 unfolding numberOf
@@ -49,13 +35,8 @@ signed c = rw (behind c, ← c .before .before .before .byte .ensures, eq-eqb _ 
 between : (c : tie.After-v) → Between 2 (length (drop 1 (c .before .before .before .before .before .before .before .args .s .now))) (Is (c .v .given .0 .0) (c .v .given .0 .1 .0))
 between c = rw (← behind (c .before .before), c .v .given .1) at (plain-between true (drop 1 (c .before .before .before .before .before .before .before .args .s .now)))
 
-<<<<<<< HEAD
-add-t12 : tie.Need-add-t12
-add-t12 c =
-=======
 fits : (c : tie.After-known-told) → Fits w64 (1 + c .before .v .given .0 .1 .0)
 fits c =
->>>>>>> 57d1c8316797dc7d2e3af3b54fa5a510bce210b2
     let s = c .before .before .before .before .before .before .before .before .args .s .now in
     omega (arith, between (c .before), length-drop 1 s, some (c .before .before .before .before .before), c .before .before .before .before .before .before .before .before .good)
 
@@ -81,11 +62,7 @@ number-spec =
     (λ c. search needs)
     (λ c κs. tt)
     (λ c. search needs)
-<<<<<<< HEAD
-    add-t12
-=======
     fits
->>>>>>> 57d1c8316797dc7d2e3af3b54fa5a510bce210b2
     (λ c. search needs)
     (λ c. search needs)
     returns-2

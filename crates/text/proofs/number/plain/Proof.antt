@@ -1,13 +1,4 @@
 -- `number::plain` meets its contract: each way out is the definition's by the tests on it. Assumes nothing.
-<<<<<<< HEAD
-use Prim.Native.Nat.{_+_, _<_}
-use mathlib.Core.Path.{_≡_, sym, _∙_}
-use mathlib.Core.Bool.{true}
-use lib.IntN.ℤ.{pos}
-use borrow.Author.Needs.{needs}
-use borrow.Author.Tests.{le-leb, lt-leb, eq-eqb, ne-eqb}
-use Rattle.text.specs.declared.number.Line.the-variants.{Is}
-=======
 use Prim.Native.Nat.{ℕ, _+_, _<_}
 use mathlib.Core.Path.{_≡_}
 use mathlib.Core.Bool.{Bool, true, cond}
@@ -22,20 +13,16 @@ use borrow.Author.Needs.{needs}
 use borrow.Author.Tests.{le-leb, lt-leb, eq-eqb, ne-eqb}
 use Rattle.text.specs.declared.number.Line.{Line}
 use Rattle.text.specs.declared.number.Line.the-variants.{Is, Never}
->>>>>>> 57d1c8316797dc7d2e3af3b54fa5a510bce210b2
 use Rattle.text.specs.Number.{plainOf, signedAs}
 use Rattle.text.proofs.Digits.{digits-small}
 use Rattle.text.proofs.Signed.{mag-signed, fits, kept, unsigned, negated}
 use Rattle.text.proofs.number.plain.Statement.{statement}
 use Rattle.text.proofs.number.plain.Tie as tie
 
-<<<<<<< HEAD
-=======
 -- a number behind its first two tests
 abbrev closed : Bool → List ℕ → ℕ → ℕ → Line
 closed minus s v n = cond (eqb n 0) Never (cond (eqb (getD s n 0) 10) (Is (signedAs minus v) (n + 1)) Never)
 
->>>>>>> 57d1c8316797dc7d2e3af3b54fa5a510bce210b2
 small : (c : tie.After-gather) → c .gather .result .value < 100000
 small c = rw (← c .gather .ensures) at (digits-small (c .before .before .args .s .now) .0)
 
@@ -48,18 +35,6 @@ unfolding plainOf
 returns-2 c =
     rw (← c .before .before .before .gather .ensures, ← c .before .before .bad-zero .ensures, c .before .if1 .left, le-leb _ _ (c .if2 .taken))
 
-<<<<<<< HEAD
-returns-3 : tie.Need-returns-3
-unfolding plainOf
-returns-3 c =
-    rw (← c .before .before .before .before .gather .ensures, ← c .before .before .before .bad-zero .ensures, c .before .before .if1 .left, lt-leb _ _ (c .before .if2 .left), eq-eqb _ _ (c .if3 .taken))
-
-returns-4 : tie.Need-returns-4
-unfolding plainOf
-returns-4 c =
-    let d = c .before .before in
-    rw (← d .before .before .before .before .gather .ensures, ← d .before .before .before .bad-zero .ensures, d .before .before .if1 .left, lt-leb _ _ (d .before .if2 .left), ne-eqb _ _ (d .if3 .left), ne-eqb _ _ (c .if4 .taken))
-=======
 -- behind the first two tests
 past : (c : tie.Else2)
     → let g = c .before .before .before in
@@ -74,20 +49,12 @@ returns-3 c = rw (past (c .before), eq-eqb _ _ (c .if3 .taken))
 
 returns-4 : tie.Need-returns-4
 returns-4 c = let d = c .before .before in rw (past (d .before), ne-eqb _ _ (d .if3 .left), ne-eqb _ _ (c .if4 .taken))
->>>>>>> 57d1c8316797dc7d2e3af3b54fa5a510bce210b2
 
 -- the line is whole
 whole : (c : tie.Else4)
     → let g = c .before .before .before .before .before .before in
     plainOf (g .before .before .args .minus) (g .before .before .args .s .now) ≡ Is (signedAs (g .before .before .args .minus) (g .gather .result .value)) (g .gather .result .count + 1)
-<<<<<<< HEAD
-unfolding plainOf
-whole c =
-    let d = c .before .before in
-    rw (← d .before .before .before .before .gather .ensures, ← d .before .before .before .bad-zero .ensures, d .before .before .if1 .left, lt-leb _ _ (d .before .if2 .left), ne-eqb _ _ (d .if3 .left), eq-eqb _ _ (c .if4 .left))
-=======
 whole c = let d = c .before .before in rw (past (d .before), ne-eqb _ _ (d .if3 .left), eq-eqb _ _ (c .if4 .left))
->>>>>>> 57d1c8316797dc7d2e3af3b54fa5a510bce210b2
 
 cast-signed : tie.Need-cast-signed
 cast-signed c =
@@ -107,11 +74,7 @@ returns-6 c =
     rw (whole (c .before), c .if5 .left, unsigned v (small g))
 
 -- what the negation needs
-<<<<<<< HEAD
-below : tie.Need-sub-t14
-=======
 below : (c : tie.Then5) → SFits w32 (pos 0 -ℤ toZ w32 (c .before .before .before .before .before .before .before .gather .result .value))
->>>>>>> 57d1c8316797dc7d2e3af3b54fa5a510bce210b2
 below c =
     let g = c .before .before .before .before .before .before .before in
     let v = g .gather .result .value in

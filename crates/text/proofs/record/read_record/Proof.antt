@@ -1,28 +1,15 @@
 -- `record::read_record` meets its contract: an equation for each line that was read, and the line where it stopped. Assumes nothing.
-<<<<<<< HEAD
-use Prim.Native.Nat.{ℕ, _+_, _^_, _≤_, _<_}
-use native.Mathlib.Nat.{lt-of-le-of-lt}
-use native.Mathlib.Omega.{arith}
-=======
 use Prim.Native.Nat.{ℕ, _+_, _≤_}
 use native.Mathlib.Nat.{lt-of-le-of-lt}
->>>>>>> 57d1c8316797dc7d2e3af3b54fa5a510bce210b2
 use mathlib.Core.Path.{_≡_, refl, sym, _∙_}
 use mathlib.Core.List.{List, [], _∷_}
 use lib.IntN.{ℤ}
 use lib.ListN.{length, drop}
-<<<<<<< HEAD
-use lib.Signed.{mag}
-=======
->>>>>>> 57d1c8316797dc7d2e3af3b54fa5a510bce210b2
 use mir.Syntax.{w32, w64}
 use mir.Val.{Fits, toZ, ofZ}
 use types.Run.{OneOf, miss}
 use denote.Enum as E
-<<<<<<< HEAD
-=======
 use borrow.Rule.Slice.PartAt.{part-to-end}
->>>>>>> 57d1c8316797dc7d2e3af3b54fa5a510bce210b2
 use borrow.Author.Needs.{needs}
 use Rattle.text.specs.declared.number.Line.{Line}
 use Rattle.text.specs.declared.number.Line.the-variants.{Is, Short, Never}
@@ -32,11 +19,7 @@ use Rattle.text.specs.Names.{kindName, aName, bName, cName}
 use Rattle.text.specs.Line.{lineOf}
 use Rattle.text.specs.Record.{next, recordOf}
 use Rattle.text.proofs.Signed.{kept}
-<<<<<<< HEAD
-use Rattle.text.proofs.Lines.{rest, read-between, read-from}
-=======
 use Rattle.text.proofs.Lines.{read-between, read-from}
->>>>>>> 57d1c8316797dc7d2e3af3b54fa5a510bce210b2
 use Rattle.text.proofs.number.Line as line
 use Rattle.text.proofs.record.read_record.Statement.{statement}
 use Rattle.text.proofs.record.read_record.Tie as tie
@@ -48,16 +31,8 @@ stopped f Short h = refl
 stopped f Never h = refl
 
 -- the first line: the part, how far it was read, and what was
-<<<<<<< HEAD
-abbrev part : tie.After-line → List ℕ
-part c = c .before .before .before .args .s .now
-
-abbrev part1 : tie.After-first → List ℕ
-part1 c = part (c .before .before)
-=======
 abbrev part1 : tie.After-first → List ℕ
 part1 c = c .before .before .before .before .before .args .s .now
->>>>>>> 57d1c8316797dc7d2e3af3b54fa5a510bce210b2
 
 abbrev end1 : tie.After-first → ℕ
 end1 c = c .first .given .0 .1 .0
@@ -82,11 +57,7 @@ abbrev from2 : tie.After-line2 → tie.After-first
 from2 c = c .before .before .before .before
 
 line2 : (c : tie.After-line2) → c .line2 .result ≡ lineOf aName (drop (end1 (from2 c)) (part1 (from2 c)))
-<<<<<<< HEAD
-line2 c = c .line2 .ensures ∙ rw (rest (end1 (from2 c)) (part1 (from2 c)))
-=======
 line2 c = c .line2 .ensures ∙ rw (part-to-end (part1 (from2 c)) (end1 (from2 c)))
->>>>>>> 57d1c8316797dc7d2e3af3b54fa5a510bce210b2
 
 abbrev back2 : tie.After-second → tie.After-first
 back2 c = from2 (c .before .before)
@@ -117,11 +88,7 @@ abbrev from3 : tie.After-line3 → tie.After-second
 from3 c = c .before .before .before .before
 
 line3 : (c : tie.After-line3) → c .line3 .result ≡ lineOf bName (drop (end2 (from3 c)) (part2 (from3 c)))
-<<<<<<< HEAD
-line3 c = c .line3 .ensures ∙ rw (rest (end2 (from3 c)) (part2 (from3 c)))
-=======
 line3 c = c .line3 .ensures ∙ rw (part-to-end (part2 (from3 c)) (end2 (from3 c)))
->>>>>>> 57d1c8316797dc7d2e3af3b54fa5a510bce210b2
 
 abbrev back3 : tie.After-third → tie.After-second
 back3 c = from3 (c .before .before)
@@ -152,11 +119,7 @@ abbrev from4 : tie.After-line4 → tie.After-third
 from4 c = c .before .before .before .before
 
 line4 : (c : tie.After-line4) → c .line4 .result ≡ lineOf cName (drop (end3 (from4 c)) (part3 (from4 c)))
-<<<<<<< HEAD
-line4 c = c .line4 .ensures ∙ rw (rest (end3 (from4 c)) (part3 (from4 c)))
-=======
 line4 c = c .line4 .ensures ∙ rw (part-to-end (part3 (from4 c)) (end3 (from4 c)))
->>>>>>> 57d1c8316797dc7d2e3af3b54fa5a510bce210b2
 
 abbrev back4 : tie.After-fourth → tie.After-third
 back4 c = from4 (c .before .before)
