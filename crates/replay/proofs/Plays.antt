@@ -1,6 +1,6 @@
 -- A play under way, and its ways on: one turn more, stopped, at the end. The loop's invariant is the record `Mid`. Assumes nothing.
-use Prim.Native.Nat.{ℕ, suc, _+_, _*_, _-_, _≤_, _<_}
-use native.Mathlib.Nat.{sub-zero}
+use Prim.Native.Nat.{ℕ, zero, suc, _+_, _*_, _-_, _≤_, _<_}
+use native.Mathlib.Nat.{sub-add-eq, sub-zero}
 use native.Mathlib.Omega.{arith}
 use mathlib.Core.Path.{_≡_, refl, sym, ap, _∙_}
 use mathlib.Core.Bool.{Bool, true, false, cond}
@@ -72,42 +72,69 @@ unfolding runOf
 mid-start s t x =
     record { text = []; front = front-none; inside = omega arith; few = omega arith; goes = rw (sub-zero, sub-zero) }
 
--- what is left of the trace, and of the output
-module _ {s : State} {t x₀ x : List ℕ} {now : State} {n u w : ℕ} (m : Mid s t x₀ x now n u w) where
-  abbrev here : Run
-  here = record { code = 0; records = n; used = u; text = m .text; state = now }
+-- "An empty rest is the end, code 0", however many turns are left
+at-end : (turns : ℕ) (p : Run) (room : ℕ) → runFrom turns p [] room ≡ ended p 0
+unfolding runFrom
+at-end zero p room = refl
+at-end (suc turns) p room = refl
 
-  room : length (take (length x - w) (drop w x)) ≡ length x₀ - w
+-- a part that is lent from a place on, and the whole once the part has come back
+abbrev from : ℕ → List ℕ → List ℕ
+from n l = take (length l - n) (drop n l)
+
+abbrev back : ℕ → List ℕ → List ℕ → List ℕ
+back n l part = take n l ++ (part ++ drop (length l - n) (drop n l))
+
+module _ {s : State} {t x₀ x : List ℕ} {now : State} {n u w : ℕ} (m : Mid s t x₀ x now n u w) where
+  room : length (from w x) ≡ length x₀ - w
   room = rw (rest w x, length-drop, front-length (m .front))
 
-  -- one step of the definition, where something is left
   module _ (left : u < length t) where
     fuel : length t - n ≡ suc (length t - (n + 1))
     fuel = omega (arith, m .few)
 
     more : eqb (length (drop u t)) 0 ≡ false
-    more = ne-eqb _ _ (rw length-drop (omega arith))
+    more = let h : length (drop u t) ≡ length t - u = length-drop u t in ne-eqb (length (drop u t)) 0 (λ z. omega arith)
 
-    module _ {ys : List ℕ} where
-      abbrev lent : List ℕ
-      lent = take (length x - w) (drop w x)
+    pub mid-step : {ys : List ℕ} {later : State} {k j : ℕ} → Turned now (from u t) (from w x) ys (Went later k j) → Mid s t x₀ (back w x ys) later (n + 1) (u + k) (w + j)
+    unfolding runFrom
+    mid-step {ys} {later} {k} {j} turn =
+        let g = gone now (from u t) (length (from w x)) (turn .said) in
+        let said : Went later k j ≡ turnOf now (drop u t) (length x₀ - w) = rw (rest u t, room) at (turn .said) in
+        record {
+          text = m .text ++ addedOf now (from u t) (length (from w x));
+          front = front-then (m .front) (record { room = g .fits; count = g .count; bytes = turn .bytes });
+          inside = let h : k ≤ length (drop u t) = rw (rest u t) at (g .inside) in omega (arith, length-drop u t);
+          few = omega (arith, g .long, m .few);
+          goes = m .goes ∙ rw (fuel, more, ← said) (rw (rest u t, room, ← drop-drop k u t, sub-add-eq (length x₀) w j));
+        }
 
-      abbrev rest-of : List ℕ
-      rest-of = take (length t - u) (drop u t)
+    -- stopped: the text stands as it was
+    pub mid-stop : {ys : List ℕ} {code : ℕ} → Turned now (from u t) (from w x) ys (Stopped code) → Ran s t x₀ (back w x ys) (record { code = code; records = n; used = u; written = w; state = now })
+    unfolding runFrom
+    mid-stop {ys} {code} turn =
+        let said : Stopped code ≡ turnOf now (drop u t) (length x₀ - w) = rw (rest u t, room) at (turn .said) in
+        let none : addedOf now (from u t) (length (from w x)) ≡ [] = idle now (from u t) (length (from w x)) (turn .said) in
+        let same : ys ≡ from w x = turn .bytes ∙ rw none in
+        let ran : runOf s t (length x₀) ≡ record { code = code; records = n; used = u; text = m .text; state = now } = m .goes ∙ rw (fuel, more, ← said) in
+        record {
+          code = rw ran;
+          records = rw ran;
+          used = rw ran;
+          written = rw ran (m .front .count);
+          state = rw ran;
+          bytes = rw (ran, same, take-append-drop (length x - w) (drop w x), take-append-drop w x) (m .front .bytes);
+        }
 
-      abbrev after : List ℕ
-      after = take w x ++ (ys ++ drop (length x - w) (drop w x))
-
-      pub mid-step : {later : State} {k j : ℕ} → Turned now rest-of lent ys (Went later k j) → Mid s t x₀ after later (n + 1) (u + k) (w + j)
-      unfolding runFrom
-      mid-step {later} {k} {j} turn =
-          let g = gone now rest-of (length lent) (turn .said) in
-          let said : Went later k j ≡ turnOf now (drop u t) (length x₀ - w) = rw (rest u t, room) at (turn .said) in
-          let added : addedOf now rest-of (length lent) ≡ addedOf now (drop u t) (length x₀ - w) = rw (rest u t, room) in
-          record {
-            text = m .text ++ addedOf now rest-of (length lent);
-            front = front-then (m .front) (record { room = g .fits; count = g .count; bytes = turn .bytes });
-            inside = ?;
-            few = ?;
-            goes = m .goes ∙ ?;
-          }
+  -- at the end
+  pub mid-end : length t ≤ u → Ran s t x₀ x (record { code = 0; records = n; used = u; written = w; state = now })
+  mid-end e =
+      let ran : runOf s t (length x₀) ≡ record { code = 0; records = n; used = u; text = m .text; state = now } = m .goes ∙ rw (drop-of-length-le t {i = u} e) (at-end (length t - n) (record { code = 0; records = n; used = u; text = m .text; state = now }) (length x₀ - w)) in
+      record {
+        code = rw ran;
+        records = rw ran;
+        used = rw ran;
+        written = rw ran (m .front .count);
+        state = rw ran;
+        bytes = rw ran (m .front .bytes);
+      }
