@@ -79,10 +79,10 @@ at-end zero p room = refl
 at-end (suc turns) p room = refl
 
 -- a part that is lent from a place on, and the whole once the part has come back
-abbrev from : ℕ → List ℕ → List ℕ
+abbrev pub from : ℕ → List ℕ → List ℕ
 from n l = take (length l - n) (drop n l)
 
-abbrev back : ℕ → List ℕ → List ℕ → List ℕ
+abbrev pub back : ℕ → List ℕ → List ℕ → List ℕ
 back n l part = take n l ++ (part ++ drop (length l - n) (drop n l))
 
 module _ {s : State} {t x₀ x : List ℕ} {now : State} {n u w : ℕ} (m : Mid s t x₀ x now n u w) where
@@ -109,13 +109,21 @@ module _ {s : State} {t x₀ x : List ℕ} {now : State} {n u w : ℕ} (m : Mid 
           goes = m .goes ∙ rw (fuel, more, ← said) (rw (rest u t, room, ← drop-drop k u t, sub-add-eq (length x₀) w j));
         }
 
+    -- a record has 19 bytes or more
+    pub turn-long : {ys : List ℕ} {later : State} {k j : ℕ} → Turned now (from u t) (from w x) ys (Went later k j) → 19 ≤ k
+    turn-long turn = gone now (from u t) (length (from w x)) (turn .said) .long
+
+    -- a turn that is stopped leaves the output as it was
+    pub mid-same : {ys : List ℕ} {code : ℕ} → Turned now (from u t) (from w x) ys (Stopped code) → back w x ys ≡ x
+    mid-same {ys} turn =
+        let same : ys ≡ from w x = turn .bytes ∙ rw (idle now (from u t) (length (from w x)) (turn .said)) in
+        rw (same, take-append-drop (length x - w) (drop w x), take-append-drop w x)
+
     -- stopped: the text stands as it was
     pub mid-stop : {ys : List ℕ} {code : ℕ} → Turned now (from u t) (from w x) ys (Stopped code) → Ran s t x₀ (back w x ys) (record { code = code; records = n; used = u; written = w; state = now })
     unfolding runFrom
     mid-stop {ys} {code} turn =
         let said : Stopped code ≡ turnOf now (drop u t) (length x₀ - w) = rw (rest u t, room) at (turn .said) in
-        let none : addedOf now (from u t) (length (from w x)) ≡ [] = idle now (from u t) (length (from w x)) (turn .said) in
-        let same : ys ≡ from w x = turn .bytes ∙ rw none in
         let ran : runOf s t (length x₀) ≡ record { code = code; records = n; used = u; text = m .text; state = now } = m .goes ∙ rw (fuel, more, ← said) in
         record {
           code = rw ran;
@@ -123,7 +131,7 @@ module _ {s : State} {t x₀ x : List ℕ} {now : State} {n u w : ℕ} (m : Mid 
           used = rw ran;
           written = rw ran (m .front .count);
           state = rw ran;
-          bytes = rw (ran, same, take-append-drop (length x - w) (drop w x), take-append-drop w x) (m .front .bytes);
+          bytes = rw ran (mid-same turn ∙ m .front .bytes);
         }
 
   -- at the end

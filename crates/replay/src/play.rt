@@ -39,3 +39,38 @@ pub fn take_turn(s: State, rest: &[u8], out: &mut [u8]) -> Turn
         Wrote::NoRoom => Turn::Stopped(8),
     }
 }
+// Records up to the end of the trace, or to what stops them there.
+pub fn play(s: State, trace: &[u8], out: &mut [u8]) -> Played
+    ensures { λ r. ⌜ Ran s (now (trace .entry)) (now (out .entry)) (now (out .exit)) r ⌝ }
+{
+    let mut state = s;
+    let mut records: usize = 0;
+    let mut used: usize = 0;
+    let mut written: usize = 0;
+    while used < trace.len() {
+        match take_turn(state, &trace[used..], &mut out[written..]) {
+            Turn::Went(after, n, k) => {
+                state = after;
+                records += 1;
+                used += n;
+                written += k;
+            }
+            Turn::Stopped(code) => {
+                return Played {
+                    code,
+                    records,
+                    used,
+                    written,
+                    state,
+                };
+            }
+        }
+    }
+    Played {
+        code: 0,
+        records,
+        used,
+        written,
+        state,
+    }
+}
