@@ -15,13 +15,13 @@ use Rattle.text.specs.Line.{fitOf, lineOf}
 use Rattle.text.specs.Record.{recordOf}
 use Rattle.text.specs.Answer.{answerText, decimalOf, lineText}
 use Rattle.replay.specs.Play.{addedOf, runFrom, runOf, textOf, turnOf}
-use Rattle.replay.specs.Replay.{replayOf, reportOf}
+use Rattle.replay.specs.Replay.{replayFrom, reportOf}
 use Rattle.replay.specs.Examples.{EmptyTrace, WholeCase, wholeAnswers, wholeTrace}
 
 pub whole-case : WholeCase
-unfolding sourceOf targetOf marksOf converted convertedOf readAtPointer neededOf statusOf afterStatus applyOf endOf respondOf startOf stepOf codeOf offsetOf wellFormed standbyCompared stored written digitsOf numberOf plainOf fitOf lineOf recordOf answerText decimalOf lineText addedOf runFrom runOf textOf turnOf replayOf reportOf wholeAnswers wholeTrace
+unfolding sourceOf targetOf marksOf converted convertedOf readAtPointer neededOf statusOf afterStatus applyOf endOf respondOf startOf stepOf codeOf offsetOf wellFormed standbyCompared stored written digitsOf numberOf plainOf fitOf lineOf recordOf answerText decimalOf lineText addedOf runFrom runOf textOf turnOf replayFrom reportOf wholeAnswers wholeTrace
 whole-case = refl
 
 pub empty-trace : EmptyTrace
-unfolding runFrom runOf replayOf reportOf
+unfolding runFrom runOf replayFrom reportOf
 empty-trace = refl

@@ -1,4 +1,4 @@
--- "Replay takes an address, a trace, an output and a 16-byte report". Assumes nothing.
+-- The report, the refusals, and replay whole. Assumes nothing.
 use Prim.Native.Nat.{ℕ, _+_, _/_, _%_}
 use mathlib.Core.Path.{_≡_}
 use mathlib.Core.Bool.{Bool, cond, _||_, not}
@@ -6,10 +6,10 @@ use mathlib.Core.List.{List, [], _∷_, _++_}
 use lib.Dec.{eqb, ltb}
 use lib.IntN.{ℤ}
 use lib.IntN.ℤ.{pos}
-use lib.ListN.{length, drop}
-use Rattle.rules.specs.declared.state.State.{State}
+use lib.ListN.{length}
+use Rattle.rules.specs.declared.answer.Made.{Made}
 use Rattle.rules.specs.PowerOn.{madeOf}
-use Rattle.replay.specs.Play.{Run, runOf}
+use Rattle.replay.specs.Play.{Run, put, runOf}
 
 -- "each 4 bytes, low byte first"
 abbrev pub word : ℕ → List ℕ
@@ -19,14 +19,18 @@ word n = n % 256 ∷ n / 256 % 256 ∷ n / 65536 % 256 ∷ n / 16777216 % 256 �
 unfoldable pub reportOf : Run → List ℕ
 reportOf p = ((word (p .code) ++ word (p .records)) ++ word (p .used)) ++ word (length (p .text))
 
+-- a report, where there are 16 bytes for it
+abbrev pub writtenOver : List ℕ → List ℕ → List ℕ
+writtenOver report before = cond (eqb (length before) 16) report before
+
 -- "over 16 MiB"
 abbrev pub tooLong : List ℕ → Bool
 tooLong bytes = ltb 16777216 (length bytes)
 
 -- "A bad address, a trace or output over 16 MiB, or a report not 16 bytes long is code 2"
-abbrev pub refusedAtOnce : ℤ → List ℕ → List ℕ → List ℕ → Bool
-refusedAtOnce address trace output report =
-    eqb (madeOf address .code) 2 || tooLong trace || tooLong output || not (eqb (length report) 16)
+abbrev pub refusedAtOnce : Made → List ℕ → List ℕ → List ℕ → Bool
+refusedAtOnce made trace output report =
+    not (eqb (made .code) 0) || tooLong trace || tooLong output || not (eqb (length report) 16)
 
 -- what is returned, and what both buffers hold at the end
 pub record Result : Type 0 where
@@ -34,17 +38,24 @@ pub record Result : Type 0 where
   pub output : List ℕ
   pub report : List ℕ
 
--- "It starts from power-on and returns the code"
-abbrev pub replayed : Run → List ℕ → Result
-replayed p output = record { code = p .code; output = p .text ++ drop (length (p .text)) output; report = reportOf p }
-
 -- code 2 "writes nothing, the report included"
-unfoldable pub replayOf : ℤ → List ℕ → List ℕ → List ℕ → Result
-replayOf address trace output report =
-    cond (refusedAtOnce address trace output report) (record { code = 2; output = output; report = report }) (replayed (runOf (madeOf address .state) trace (length output)) output)
+abbrev pub untouched : List ℕ → List ℕ → Result
+untouched output report = record { code = 2; output = output; report = report }
 
--- what the C entry promises
-pub record Replayed (address : ℤ) (trace output report : List ℕ) (r : ℤ) (output′ report′ : List ℕ) : Type 0 where
-  pub code : r ≡ pos (replayOf address trace output report .code)
-  pub bytes : output′ ≡ replayOf address trace output report .output
-  pub told : report′ ≡ replayOf address trace output report .report
+abbrev pub played : Run → List ℕ → Result
+played p output = record { code = p .code; output = put (p .text) output; report = reportOf p }
+
+-- "It starts from power-on and returns the code": from what making a state gave
+unfoldable pub replayFrom : Made → List ℕ → List ℕ → List ℕ → Result
+replayFrom made trace output report =
+    cond (refusedAtOnce made trace output report) (untouched output report) (played (runOf (made .state) trace (length output)) output)
+
+-- "Replay takes an address, a trace, an output and a 16-byte report"
+abbrev pub replayOf : ℤ → List ℕ → List ℕ → List ℕ → Result
+replayOf address trace output report = replayFrom (madeOf address) trace output report
+
+-- what a replay promises: the code that it returns, and every byte of both buffers
+pub record Replayed (wanted : Result) (r : ℤ) (output report : List ℕ) : Type 0 where
+  pub code : r ≡ pos (wanted .code)
+  pub bytes : output ≡ wanted .output
+  pub told : report ≡ wanted .report
