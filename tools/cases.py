@@ -28,9 +28,13 @@ def numbers(number, words, count):
     if len(words) != count:
         fail(number, f"{count} numbers wanted, {len(words)} found")
     try:
-        return [int(word, 0) for word in words]
+        found = [int(word, 0) for word in words]
     except ValueError as error:
         fail(number, str(error))
+    for n in found:
+        if abs(n) > 99999:
+            fail(number, f"a number of more than five digits: {n}")
+    return found
 
 
 def rows():

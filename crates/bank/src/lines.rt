@@ -22,5 +22,5 @@ pub fn alert_line(s: State) -> bool
 pub fn therm_line(s: State) -> bool
     ensures { λ r. ⌜ r ≡ thermLine s ⌝ }
 {
-    !(s.remote.marks.therm | s.local.marks.therm)
+    !(s.local.marks.therm | s.remote.marks.therm)
 }

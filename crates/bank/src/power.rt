@@ -36,7 +36,7 @@ fn new_sensor(settings: Settings) -> Sensor
     }
 }
 
-// Both limits of the two channels that are not 0, at power-on; 0 for a state of all zeros.
+// `degrees` for the high and the THERM limit, 0 for the rest.
 fn new_settings(degrees: u8) -> Settings
     ensures { λ r. ⌜ r ≡ record { high = degrees; highfine = 0; low = 0; lowfine = 0; offset = 0; offsetfine = 0; therm = degrees } ⌝ }
 {

@@ -7,7 +7,7 @@ use rules::state::Latched;
 use rules::state::Sensor;
 use rules::state::Settings;
 use rules::state::State;
-use values::scale;
+use values::top;
 ghost use mathlib.Core.Path.{_≡_};
 ghost use mathlib.Core.Bool.{true};
 ghost use lib.Dec.{leb};
@@ -52,7 +52,7 @@ fn diode_kept(channel: Channel, mark: Latched) -> bool
 fn value_fits(channel: Channel, value: u16) -> bool
     ensures { λ r. ⌜ r ≡ leb value (topOf (scaleOf channel) true) ⌝ }
 {
-    value <= scale(channel) * 256 - 1
+    value <= top(channel, true)
 }
 
 fn sensor_well(channel: Channel, c: Sensor) -> bool

@@ -3,11 +3,11 @@ ghost use mathlib.Core.Path.{_≡_};
 ghost use mathlib.Core.Bool.{cond};
 ghost use Prim.Native.Nat.{_+_, _≤_};
 ghost use mathlib.Core.List.{[], _∷_};
-ghost use Rattle.rules.specs.Runs as rule;
+ghost use Rattle.rules.specs.Channels as channels;
 ghost use Rattle.rules.specs.Runs.{runsOf, neededOf, convertedSets};
 
 pub fn any(a: bool, b: bool) -> bool
-    ensures { λ r. ⌜ r ≡ rule.any (a ∷ b ∷ []) ⌝ }
+    ensures { λ r. ⌜ r ≡ channels.any (a ∷ b ∷ []) ⌝ }
 {
     a | b
 }

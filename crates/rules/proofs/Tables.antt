@@ -7,7 +7,7 @@ use Rattle.rules.specs.Registers.{readAtPointer}
 use Rattle.rules.specs.Runs.{neededOf}
 use Rattle.rules.specs.Status.{statusOf, afterStatus}
 use Rattle.rules.specs.Step.{applyOf, endOf, respondOf, startOf, stepOf}
-use Rattle.rules.specs.Trial.{answered, fresh, gots, lastFrom, wants}
+use Rattle.rules.specs.Trial.{answeredAt, answeredFrom, gots, lastFrom, wants}
 use Rattle.rules.specs.Values.{codeOf, offsetOf}
 use Rattle.rules.specs.WellFormed.{wellFormed}
 use Rattle.rules.specs.Write.{standbyCompared, stored, written}
@@ -15,9 +15,9 @@ use Rattle.rules.specs.BenchCases.{BenchCases, benchRows}
 use Rattle.rules.specs.RuleCases.{RuleCases, ruleRows}
 
 pub bench-cases : BenchCases
-unfolding sourceOf targetOf marksOf converted convertedOf readAtPointer neededOf statusOf afterStatus applyOf endOf respondOf startOf stepOf answered fresh gots lastFrom wants codeOf offsetOf wellFormed standbyCompared stored written benchRows
+unfolding sourceOf targetOf marksOf converted convertedOf readAtPointer neededOf statusOf afterStatus applyOf endOf respondOf startOf stepOf answeredAt answeredFrom gots lastFrom wants codeOf offsetOf wellFormed standbyCompared stored written benchRows
 bench-cases = refl
 
 pub rule-cases : RuleCases
-unfolding sourceOf targetOf marksOf converted convertedOf readAtPointer neededOf statusOf afterStatus applyOf endOf respondOf startOf stepOf answered fresh gots lastFrom wants codeOf offsetOf wellFormed standbyCompared stored written ruleRows
+unfolding sourceOf targetOf marksOf converted convertedOf readAtPointer neededOf statusOf afterStatus applyOf endOf respondOf startOf stepOf answeredAt answeredFrom gots lastFrom wants codeOf offsetOf wellFormed standbyCompared stored written ruleRows
 rule-cases = refl

@@ -32,9 +32,10 @@ use Rattle.rules.specs.declared.state.State.{State}
 use Rattle.rules.specs.Keeps.{trimOf, trimSetting, trimConfig, trimFine, keptIn}
 use Rattle.rules.specs.PowerOn.{isAddress, madeAt, noState, powerOn, sensorOf, settingsOn}
 use Rattle.rules.specs.Values.{scaleOf, topOf, shiftOf, clampOf, codeOf, offsetOf}
-use Rattle.rules.specs.Comparisons.{comparedOf, faultOf, marksOf, recomparedOf, verdictOf}
+use Rattle.rules.specs.Comparisons.{comparedOf, marksOf, recomparedOf, verdictOf}
 use Rattle.rules.specs.Status.{shownOf, shownMarks, afterStatus}
-use Rattle.rules.specs.Runs.{runsOf, any}
+use Rattle.rules.specs.Channels.{any, faultsOf}
+use Rattle.rules.specs.Runs.{runsOf}
 use Rattle.rules.specs.Registers.{withSetting, withStored, afterRead, readAtPointer}
 use Rattle.rules.specs.Write.{standbyCompared, stored, stoppedIf, comparedIf, written, writeCompares, writtenTo}
 use Rattle.rules.specs.Conversion.{bothConverted, converted, convertedOf}
@@ -309,7 +310,7 @@ converted-well : (s : State) (l r : ℤ) (broken : Bool) → Well s → Well (co
 unfolding converted
 converted-well s l r broken w =
     let t = bothConverted s l r broken in
-    record { address = w .address; runs = counted-fits (s .runs) (faultOf (t .local) ∷ faultOf (t .remote) ∷ []); config = w .config; rate = w .rate; hysteresis = w .hysteresis; consecutive = w .consecutive; local = converted-fit Local (extended (s .config)) (s .hysteresis) l false (s .local) refl (w .local); remote = converted-fit Remote (extended (s .config)) (s .hysteresis) r broken (s .remote) tt (w .remote) }
+    record { address = w .address; runs = counted-fits (s .runs) (faultsOf t); config = w .config; rate = w .rate; hysteresis = w .hysteresis; consecutive = w .consecutive; local = converted-fit Local (extended (s .config)) (s .hysteresis) l false (s .local) refl (w .local); remote = converted-fit Remote (extended (s .config)) (s .hysteresis) r broken (s .remote) tt (w .remote) }
 
 -- each event
 done-or-as-before : (s : State) (a : ℕ) (d : Done) → Well s → Well (d .state) → Well (onBus s a d .state)

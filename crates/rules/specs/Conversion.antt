@@ -1,7 +1,6 @@
 -- Comparisons, "At kind 7, after both values are stored, both channels are compared and the diode checked". Assumes nothing.
 use Prim.Native.Nat.{ℕ}
 use mathlib.Core.Bool.{Bool, _||_, false}
-use mathlib.Core.List.{[], _∷_}
 use lib.IntN.{ℤ}
 use Rattle.rules.specs.declared.register.Channel.the-variants.{Local, Remote}
 use Rattle.rules.specs.declared.state.Sensor.{Sensor}
@@ -9,7 +8,8 @@ use Rattle.rules.specs.declared.state.State.{State}
 use Rattle.rules.specs.Configuration.{extended}
 use Rattle.rules.specs.Setters.{withBusy, withLatch, withRuns, withSensors, withValue}
 use Rattle.rules.specs.Values.{scaleOf, codeOf, offsetOf}
-use Rattle.rules.specs.Comparisons.{comparedOf, diodeOf, faultOf}
+use Rattle.rules.specs.Channels.{faultsOf}
+use Rattle.rules.specs.Comparisons.{comparedOf, diodeOf}
 use Rattle.rules.specs.Runs.{runsOf, convertedSets}
 
 -- the measurement in the value register, by the range and the offset as they stand
@@ -29,7 +29,7 @@ bothConverted s local remote broken =
 
 -- "Run count: completed conversions in a row in which any of the four limit faults was found"
 abbrev pub counted : State → State
-counted s = withRuns s (runsOf (s .runs) (faultOf (s .local) ∷ faultOf (s .remote) ∷ []))
+counted s = withRuns s (runsOf (s .runs) (faultsOf s))
 
 abbrev pub latchedByConversion : Bool → State → State
 latchedByConversion broken s = withLatch s (s .latch || convertedSets (s .runs) (s .consecutive) broken)

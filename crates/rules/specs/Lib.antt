@@ -8,6 +8,7 @@ pub mod PowerOn
 pub mod Commands
 pub mod Values
 pub mod Comparisons
+pub mod Channels
 pub mod Status
 pub mod Lines
 pub mod Runs

@@ -4,7 +4,14 @@ use mathlib.Core.Path.{_≡_}
 use mathlib.Core.List.{List, [], _∷_}
 use Prim.Native.Nat.{ℕ}
 use lib.IntN.ℤ.{pos, negsuc}
-use Rattle.rules.specs.Trial.{Four, Row, row, four, answered, gots, wants, reset, send, write, read, receive, respond, start, end, status, convert}
+use Rattle.rules.specs.declared.register.Channel.the-variants.{Local, Remote}
+use Rattle.rules.specs.declared.register.Setting.the-variants.{HighFine, Offset}
+use Rattle.rules.specs.declared.register.Register.the-variants.{Of}
+use Rattle.rules.specs.declared.state.State.{State}
+use Rattle.rules.specs.PowerOn.{powerOn}
+use Rattle.rules.specs.Registers.{withStored}
+use Rattle.rules.specs.Setters.{withConfig, withRuns, withSensors, withValue}
+use Rattle.rules.specs.Trial.{Four, Row, row, four, answered, answeredAt, answeredFrom, gots, wants, reset, send, write, read, receive, respond, start, end, status, convert}
 
 -- a conversion with nothing at fault, and one with the remote channel above its limit and below its THERM limit, which is raised
 abbrev good : List Four → List Four
@@ -16,6 +23,12 @@ hot later = convert (pos 20) (pos 341) later
 abbrev highTherm : Four
 highTherm = write 0x19 0x7f
 
+abbrev highTherm77 : Four
+highTherm77 = four 2 (pos 77) (pos 0x19) (pos 0x7f)
+
+abbrev ready : State
+ready = powerOn (record { address = 76 })
+
 unfoldable pub ruleRows : List Row
 ruleRows =
     -- Errors that look right: in the extended range 55 is 21 °C, local and remote
@@ -26,6 +39,12 @@ ruleRows =
     row (answered (convert (pos 0) (pos 200) (status ∷ []))) (0 ∷ 32 ∷ 0 ∷ 1 ∷ []) ∷
     row (answered (convert (pos 86) (pos 200) (convert (pos 76) (pos 200) (status ∷ [])))) (0 ∷ 65 ∷ 0 ∷ 0 ∷ []) ∷
     row (answered (convert (pos 86) (pos 200) (convert (pos 75) (pos 200) (status ∷ [])))) (0 ∷ 64 ∷ 0 ∷ 1 ∷ []) ∷
+    -- a limit's low byte counts in 64ths: at 341 the high limit 340 and a quarter is not passed; low at 42 quarters, not at 43
+    row (answered (write 0x13 0x40 ∷ convert (pos 20) (pos 341) (status ∷ []))) (0 ∷ 2 ∷ 1 ∷ 0 ∷ []) ∷
+    row (answered (write 0x0e 10 ∷ write 0x14 0x80 ∷ convert (pos 20) (pos 42) (status ∷ []))) (0 ∷ 8 ∷ 0 ∷ 1 ∷ []) ∷
+    row (answered (write 0x0e 10 ∷ write 0x14 0x80 ∷ convert (pos 20) (pos 43) (status ∷ []))) (0 ∷ 0 ∷ 1 ∷ 1 ∷ []) ∷
+    -- so does the offset's
+    row (answered (write 0x12 0x40 ∷ good (read 0x10 ∷ []))) (0 ∷ 0x40 ∷ 1 ∷ 1 ∷ []) ∷
     -- local range: clamped to 0..127, or 64 added and clamped to 0..255
     row (answered (convert (pos 200) (pos 200) (read 0x00 ∷ []))) (0 ∷ 127 ∷ 0 ∷ 0 ∷ []) ∷
     row (answered (write 0x09 4 ∷ convert (negsuc 63) (pos 0) (read 0x00 ∷ []))) (0 ∷ 0 ∷ 0 ∷ 1 ∷ []) ∷
@@ -69,6 +88,14 @@ ruleRows =
     -- a standby comparison latches whatever the count, and leaves the count alone
     row (answered (write 0x22 0x0f ∷ good (write 0x09 64 ∷ write 0x0d 40 ∷ []))) (0 ∷ 0 ∷ 0 ∷ 1 ∷ []) ∷
     row (answered (write 0x22 0x03 ∷ good (write 0x09 64 ∷ write 0x0d 40 ∷ write 0x0d 60 ∷ write 0x09 0 ∷ status ∷ status ∷ respond ∷ write 0x0d 40 ∷ good (status ∷ [])))) (0 ∷ 16 ∷ 1 ∷ 1 ∷ []) ∷
+    -- each write that compares in standby: 0B, 0C, 19, 20, 21, and none of 11, 12, 22, 0A
+    row (answered (good (write 0x09 64 ∷ write 0x0b 19 ∷ status ∷ []))) (0 ∷ 64 ∷ 0 ∷ 1 ∷ []) ∷
+    row (answered (good (write 0x09 64 ∷ write 0x0c 20 ∷ status ∷ []))) (0 ∷ 32 ∷ 0 ∷ 1 ∷ []) ∷
+    row (answered (good (write 0x09 64 ∷ write 0x0e 50 ∷ status ∷ []))) (0 ∷ 8 ∷ 0 ∷ 1 ∷ []) ∷
+    row (answered (good (write 0x09 64 ∷ write 0x19 49 ∷ status ∷ []))) (0 ∷ 2 ∷ 1 ∷ 0 ∷ []) ∷
+    row (answered (good (write 0x09 64 ∷ write 0x20 19 ∷ status ∷ []))) (0 ∷ 1 ∷ 1 ∷ 0 ∷ []) ∷
+    row (answered (good (write 0x19 49 ∷ write 0x09 64 ∷ write 0x21 0 ∷ status ∷ []))) (0 ∷ 2 ∷ 1 ∷ 0 ∷ []) ∷
+    row (answered (good (write 0x0d 40 ∷ write 0x09 64 ∷ write 0x11 1 ∷ write 0x12 64 ∷ write 0x22 1 ∷ write 0x0a 1 ∷ status ∷ []))) (0 ∷ 0 ∷ 1 ∷ 1 ∷ []) ∷
     -- a channel never converted is not compared
     row (answered (write 0x09 64 ∷ write 0x0e 16 ∷ write 0x0c 16 ∷ status ∷ [])) (0 ∷ 0 ∷ 1 ∷ 1 ∷ []) ∷
     -- a write in standby that ends the fault: the flag is shown once more, then cleared; the latch stands
@@ -76,6 +103,12 @@ ruleRows =
     row (answered (good (write 0x09 64 ∷ write 0x0d 40 ∷ write 0x0d 60 ∷ status ∷ status ∷ []))) (0 ∷ 0 ∷ 0 ∷ 1 ∷ []) ∷
     -- an alert response with a flag standing keeps the latch
     row (answered (highTherm ∷ hot (respond ∷ []))) (0 ∷ 153 ∷ 0 ∷ 1 ∷ []) ∷
+    -- of either channel: the flag was not read since its fault went
+    row (answered (write 0x0b 30 ∷ convert (pos 31) (pos 200) (good (respond ∷ [])))) (0 ∷ 153 ∷ 0 ∷ 1 ∷ []) ∷
+    -- address 77, kept by a reset
+    row (answeredAt 77 (highTherm77 ∷ hot (respond ∷ []))) (0 ∷ 155 ∷ 0 ∷ 1 ∷ []) ∷
+    row (answeredAt 77 (reset ∷ four 3 (pos 77) (pos 0x05) (pos 0) ∷ [])) (0 ∷ 0x55 ∷ 1 ∷ 1 ∷ []) ∷
+    row (answeredAt 77 (read 0x05 ∷ [])) (3 ∷ 0 ∷ 1 ∷ 1 ∷ []) ∷
     -- a reset keeps nothing but the address
     row (answered (highTherm ∷ hot (reset ∷ []))) (0 ∷ 0 ∷ 1 ∷ 1 ∷ []) ∷
     row (answered (write 0x0d 1 ∷ reset ∷ read 0x07 ∷ [])) (0 ∷ 0x55 ∷ 1 ∷ 1 ∷ []) ∷
@@ -90,6 +123,20 @@ ruleRows =
     row (answered (write 0x09 64 ∷ start ∷ [])) (4 ∷ 0 ∷ 1 ∷ 1 ∷ []) ∷
     row (answered (end (pos 0) (pos 0) 0 ∷ [])) (5 ∷ 0 ∷ 1 ∷ 1 ∷ []) ∷
     row (answered (four 7 (negsuc 8192) (pos 0) (pos 0) ∷ [])) (2 ∷ 0 ∷ 1 ∷ 1 ∷ []) ∷
+    -- a kind under 0, whatever its fields
+    row (answered (record { kind = negsuc 0; a = pos 1; b = pos 1; c = pos 1 } ∷ [])) (1 ∷ 0 ∷ 1 ∷ 1 ∷ []) ∷
+    -- code 6 before any other: each of its tests, one beyond and at its end
+    row (answeredAt 75 (four 8 (pos 0) (pos 0) (pos 0) ∷ [])) (6 ∷ 0 ∷ 1 ∷ 1 ∷ []) ∷
+    row (answeredFrom (powerOn (record { address = 78 })) (start ∷ [])) (6 ∷ 0 ∷ 1 ∷ 1 ∷ []) ∷
+    row (answeredFrom (withSensors ready (ready .local) (withValue (ready .remote) 1024)) (start ∷ [])) (6 ∷ 0 ∷ 1 ∷ 1 ∷ []) ∷
+    row (answeredFrom (withSensors ready (ready .local) (withValue (ready .remote) 1023)) (start ∷ [])) (0 ∷ 0 ∷ 1 ∷ 1 ∷ []) ∷
+    row (answeredFrom (withSensors ready (withValue (ready .local) 256) (ready .remote)) (start ∷ [])) (6 ∷ 0 ∷ 1 ∷ 1 ∷ []) ∷
+    row (answeredFrom (withRuns ready 5) (start ∷ [])) (6 ∷ 0 ∷ 1 ∷ 1 ∷ []) ∷
+    row (answeredFrom (withRuns ready 4) (start ∷ [])) (0 ∷ 0 ∷ 1 ∷ 1 ∷ []) ∷
+    row (answeredFrom (withConfig ready 16) (start ∷ [])) (6 ∷ 0 ∷ 1 ∷ 1 ∷ []) ∷
+    row (answeredFrom (withConfig ready 164) (start ∷ [])) (0 ∷ 0 ∷ 1 ∷ 1 ∷ []) ∷
+    row (answeredFrom (withStored ready (Of Remote HighFine) 32) (start ∷ [])) (6 ∷ 0 ∷ 1 ∷ 1 ∷ []) ∷
+    row (answeredFrom (withStored ready (Of Local Offset) 1) (start ∷ [])) (6 ∷ 0 ∷ 1 ∷ 1 ∷ []) ∷
     -- a refused event moves nothing: the pointer is still at 05
     row (answered (send 0x05 ∷ four 3 (pos 77) (pos 0x02) (pos 0) ∷ receive ∷ [])) (0 ∷ 0x55 ∷ 1 ∷ 1 ∷ []) ∷
     []

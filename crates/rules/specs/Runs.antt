@@ -4,10 +4,7 @@ use mathlib.Core.Bool.{Bool, cond, _||_, true, false}
 use mathlib.Core.List.{List, [], _∷_}
 use lib.Dec.{ltb, leb}
 use Rattle.rules.specs.Bits.{bit}
-
-abbrev pub any : List Bool → Bool
-any [] = false
-any (b ∷ bs) = b || any bs
+use Rattle.rules.specs.Channels.{any}
 
 -- "completed conversions in a row in which any of the four limit faults was found, held at 4"
 abbrev pub runsOf : ℕ → List Bool → ℕ

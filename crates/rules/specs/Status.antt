@@ -1,11 +1,13 @@
 -- Status, ALERT, THERM: the status byte and what its read clears. Assumes nothing.
 use Prim.Native.Nat.{ℕ, _+_}
 use mathlib.Core.Bool.{Bool, _||_, _&&_}
+use mathlib.Core.List.{map}
 use Rattle.rules.specs.declared.state.Latched.{Latched}
 use Rattle.rules.specs.declared.state.Marks.{Marks}
 use Rattle.rules.specs.declared.state.Sensor.{Sensor}
 use Rattle.rules.specs.declared.state.State.{State}
 use Rattle.rules.specs.Bits.{weight}
+use Rattle.rules.specs.Channels.{any, sensorsOf}
 use Rattle.rules.specs.Setters.{withMarks, withSensors}
 
 -- "7 busy, 6 local high, 5 local low, 4 remote high, 3 remote low, 2 open, 1 remote THERM, 0 local THERM"
@@ -32,4 +34,4 @@ flagOf c = c .marks .high .flag || c .marks .low .flag || c .marks .diode .flag
 
 -- "flags 6 to 2 are all 0" denied
 abbrev pub anyFlag : State → Bool
-anyFlag s = flagOf (s .local) || flagOf (s .remote)
+anyFlag s = any (map flagOf (sensorsOf s))

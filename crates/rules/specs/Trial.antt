@@ -63,12 +63,16 @@ unfoldable pub lastFrom : Answer → List Four → Answer
 lastFrom before [] = before
 lastFrom before (e ∷ es) = lastFrom (stepOf (before .state) (e .kind) (e .a) (e .b) (e .c)) es
 
--- before any event: nothing was asked, so code and reply are 0
-unfoldable pub fresh : Answer
-fresh = answerOf 0 0 (madeOf (pos 76) .state)
+-- what the last of the events is answered, from a state: before any, nothing was asked, so code and reply are 0
+unfoldable pub answeredFrom : State → List Four → List ℕ
+answeredFrom s es = shows (lastFrom (answerOf 0 0 s) es)
 
-unfoldable pub answered : List Four → List ℕ
-answered es = shows (lastFrom fresh es)
+-- from a fresh state of an address
+unfoldable pub answeredAt : ℕ → List Four → List ℕ
+answeredAt address es = answeredFrom (madeOf (pos address) .state) es
+
+abbrev pub answered : List Four → List ℕ
+answered es = answeredAt 76 es
 
 -- a row: what the rules give, and what document 01 wants
 pub record Row : Type 0 where

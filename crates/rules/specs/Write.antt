@@ -1,7 +1,6 @@
 -- Registers and Comparisons: what a write byte does. Assumes nothing.
 use Prim.Native.Nat.{ℕ}
 use mathlib.Core.Bool.{Bool, cond, not, _||_, _&&_, true, false}
-use mathlib.Core.List.{[], _∷_}
 use Rattle.rules.specs.declared.register.Channel.the-variants.{Local, Remote}
 use Rattle.rules.specs.declared.register.Setting.{Setting}
 use Rattle.rules.specs.declared.register.Setting.the-variants.{High, HighFine, Low, LowFine, Offset, OffsetFine, Therm}
@@ -14,8 +13,8 @@ use Rattle.rules.specs.Configuration.{standby}
 use Rattle.rules.specs.Setters.{withBusy, withLatch, withPointer, withSensors}
 use Rattle.rules.specs.Keeps.{trimOf}
 use Rattle.rules.specs.Values.{scaleOf}
-use Rattle.rules.specs.Comparisons.{recomparedOf, faultOf}
-use Rattle.rules.specs.Runs.{any}
+use Rattle.rules.specs.Comparisons.{recomparedOf}
+use Rattle.rules.specs.Channels.{any, faultsOf}
 use Rattle.rules.specs.Registers.{withStored}
 use Rattle.rules.specs.Commands.{targetOf}
 
@@ -43,7 +42,7 @@ bothRecompared s =
 
 -- "by a standby comparison that finds any limit fault (house: whatever the count)"
 abbrev pub latchedByFaults : State → State
-latchedByFaults s = withLatch s (s .latch || any (faultOf (s .local) ∷ faultOf (s .remote) ∷ []))
+latchedByFaults s = withLatch s (s .latch || any (faultsOf s))
 
 unfoldable pub standbyCompared : State → State
 standbyCompared s = latchedByFaults (bothRecompared s)

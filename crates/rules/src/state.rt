@@ -1,4 +1,5 @@
-// One chip's state. No field is an array, and every field but a flag is a number that can hold what code 6 refuses.
+// One chip's state. No field is an array. The configuration, the fine bytes, the values, the address and the run count are numbers
+// that can hold what code 6 refuses.
 
 // What is given when a state is made, and kept by a reset.
 pub struct Given {

@@ -29,7 +29,7 @@ pub fn offset(high: u8, fine: u8) -> i16
 }
 
 // The largest code of the channel's range.
-fn top(channel: Channel, wide: bool) -> u16
+pub fn top(channel: Channel, wide: bool) -> u16
     ensures { λ r. ⌜ r ≡ topOf (scaleOf channel) wide ⌝ }
 {
     let s = scale(channel);
