@@ -5,7 +5,6 @@ mod report;
 use play::play;
 use report::write_report;
 use rules::answer::Made;
-
 ghost use Rattle.replay.specs.Replay.{Replayed, replayFrom, replayOf};
 
 const MOST: usize = 16777216;
