@@ -1,0 +1,5 @@
+-- What is shown of replay, and the laws of its loop.
+pub mod Examples
+pub mod Plays
+pub mod Replays
+pub mod Turns

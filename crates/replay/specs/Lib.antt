@@ -1,0 +1,4 @@
+-- Document 01, Traces and their replay. The text of records and answers is the crate text's, the step the rules'.
+pub mod Play
+pub mod Replay
+pub mod Examples

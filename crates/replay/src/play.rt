@@ -1,0 +1,76 @@
+// Records read, stepped and answered one after the other.
+use rules::state::State;
+use text::answer::Wrote;
+use text::answer::write_answer;
+use text::record::Parsed;
+use text::record::read_record;
+ghost use Rattle.replay.specs.Play.{Turned, Ran};
+
+// What one record came to: the state after it, the trace bytes that it used and the output bytes that its answer took; or the code that stops
+// the replay there.
+pub enum Turn {
+    Went(State, usize, usize),
+    Stopped(u8),
+}
+
+// A replay, or one under way: its code, the records answered, the trace bytes used, the output bytes written, and the state.
+pub struct Played {
+    pub code: u8,
+    pub records: usize,
+    pub used: usize,
+    pub written: usize,
+    pub state: State,
+}
+
+// One record: read, stepped, and answered at the front of what is lent.
+pub fn take_turn(s: State, rest: &[u8], out: &mut [u8]) -> Turn
+    ensures { λ r. ⌜ Turned s (now (rest .entry)) (now (out .entry)) (now (out .exit)) r ⌝ }
+{
+    let Parsed::Whole(r, n) = read_record(rest) else {
+        return Turn::Stopped(7);
+    };
+    let a = chip::step(s, r.kind, r.a, r.b, r.c);
+    let wrote = write_answer(out, a.code, a.reply, a.alert, a.therm);
+    match wrote {
+        Wrote::Bytes(k) => {
+            let t = a.state;
+            Turn::Went(t, n, k)
+        }
+        Wrote::NoRoom => Turn::Stopped(8),
+    }
+}
+// Records up to the end of the trace, or to what stops them there.
+pub fn play(s: State, trace: &[u8], out: &mut [u8]) -> Played
+    ensures { λ r. ⌜ Ran s (now (trace .entry)) (now (out .entry)) (now (out .exit)) r ⌝ }
+{
+    let mut state = s;
+    let mut records: usize = 0;
+    let mut used: usize = 0;
+    let mut written: usize = 0;
+    while used < trace.len() {
+        match take_turn(state, &trace[used..], &mut out[written..]) {
+            Turn::Went(after, n, k) => {
+                state = after;
+                records += 1;
+                used += n;
+                written += k;
+            }
+            Turn::Stopped(code) => {
+                return Played {
+                    code,
+                    records,
+                    used,
+                    written,
+                    state,
+                };
+            }
+        }
+    }
+    Played {
+        code: 0,
+        records,
+        used,
+        written,
+        state,
+    }
+}

@@ -1,0 +1,56 @@
+// A record: four lines.
+ghost use mathlib.Core.Path.{_≡_};
+ghost use Rattle.text.specs.declared.record.Parsed.the-variants.{Malformed};
+ghost use Rattle.text.specs.Record.{next, recordOf};
+use crate::line;
+use crate::number::Line;
+
+pub struct Record {
+    pub kind: i32,
+    pub a: i32,
+    pub b: i32,
+    pub c: i32,
+}
+
+// What stands at the front of a part: a whole record with its length, a part of one that more bytes could complete, or neither.
+pub enum Parsed {
+    Whole(Record, usize),
+    Part,
+    Malformed,
+}
+
+// What a line that was not read makes of its record.
+fn refused(l: Line) -> Parsed
+    ensures { λ r. ⌜ r ≡ next l (λ v n. Malformed) ⌝ }
+{
+    match l {
+        Line::Is(_, _) => Parsed::Malformed,
+        Line::Short => Parsed::Part,
+        Line::Never => Parsed::Malformed,
+    }
+}
+
+// The part starts at the current place, and each line is read from where the one before it ended.
+pub fn read_record(s: &[u8]) -> Parsed
+    ensures { λ r. ⌜ r ≡ recordOf (now (s .entry)) ⌝ }
+{
+    let first = line::line(b"kind=", s);
+    let Line::Is(kind, n) = first else {
+        return refused(first);
+    };
+    let second = line::line(b"a=", &s[n..]);
+    let Line::Is(a, m) = second else {
+        return refused(second);
+    };
+    let after_a = n + m;
+    let third = line::line(b"b=", &s[after_a..]);
+    let Line::Is(b, k) = third else {
+        return refused(third);
+    };
+    let after_b = after_a + k;
+    let fourth = line::line(b"c=", &s[after_b..]);
+    let Line::Is(c, j) = fourth else {
+        return refused(fourth);
+    };
+    Parsed::Whole(Record { kind, a, b, c }, after_b + j)
+}
