@@ -116,14 +116,13 @@ def contracts():
 
 
 def declared(module):
-    path = ROOT / "crates" / "rules" / "specs" / f"{module}.antt"
-    text = path.read_text() if path.exists() else ""
-    return set(re.findall(r"^(?:unfoldable |abbrev )?pub (?:record |data )?(\S+) :", text, re.M))
+    text = "".join(path.read_text() for path in ROOT.glob(f"crates/*/specs/{module}.antt"))
+    return set(re.findall(r"^(?:unfoldable |abbrev )?pub (?:record |data )?(\S+)(?: \([^:]*:[^)]*\))* :", text, re.M)) | set(re.findall(r"^pub record (\S+) ", text, re.M))
 
 
 def functions(crate, module):
     paths = [ROOT / "crates" / crate / "src" / f"{module}.rt"] if module else [ROOT / "crates" / crate / "src" / "lib.rt"]
-    return {name for p in paths if p.exists() for name in re.findall(r"^(?:pub )?fn (\w+)", p.read_text(), re.M)}
+    return {name for p in paths if p.exists() for name in re.findall(r"^(?:#\[\w+\] )?(?:pub )?(?:extern \"C\" )?fn (\w+)", p.read_text(), re.M)}
 
 
 def missing(text):

@@ -3,3 +3,4 @@ pub mod Examples
 pub mod Plays
 pub mod Replays
 pub mod Turns
+pub mod Unique

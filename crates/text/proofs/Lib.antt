@@ -7,3 +7,4 @@ pub mod Put
 pub mod Records
 pub mod Signed
 pub mod Size
+pub mod Unique
