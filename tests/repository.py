@@ -162,12 +162,12 @@ UNFIT = ["has no `Need-", "is not in scope", "has no field", "Parse", "no such m
 
 def unfit(log, at):
     """Why an edit shows nothing: its first error is one of form, or no error stands in the file that is to refuse it."""
-    errors = [line for line in log.splitlines() if ": error" in line or line.startswith("note: ")]
+    errors = [line for line in log.replace("\n  ", " ").splitlines() if ": error" in line or line.startswith("note: ")]
     errors = [line for line in errors if "was not admitted" not in line]
     if not errors:
         return "no error"
     for word in UNFIT:
-        if word in errors[0]:
+        if word in errors[0][:600]:
             return f"first error: {errors[0][:160]}"
     if at and not any(f"/{at}:" in line and ": error" in line for line in errors):
         return f"no error in {at}"

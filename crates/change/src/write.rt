@@ -60,8 +60,9 @@ fn latched_by_faults(s: State) -> State
 {
     let l = s.local;
     let r = s.remote;
+    let found = any(fault(l), fault(r));
     State {
-        latch: s.latch | any(fault(l), fault(r)),
+        latch: s.latch | found,
         ..s
     }
 }
