@@ -1,0 +1,169 @@
+/* second_replay.c - traces and their replay. See second.h. */
+#include "second.h"
+
+#include <stdbool.h>
+#include <string.h>
+
+typedef struct {
+    int32_t kind, a, b, c;
+} record;
+
+enum { MOST_DIGITS = 5 };
+
+/* ---- reading ---- */
+
+/* Reads one line, `name` (with its equals sign), a number and byte 10, from the
+   start of `rest`. Gives the line's length, or 0 if there is no such line. */
+static inline size_t read_line(const uint8_t *rest, size_t len, const char *name, int32_t *number)
+{
+    size_t at = strlen(name);
+    if (len < at || memcmp(rest, name, at) != 0)
+        return 0;
+
+    bool minus = at < len && rest[at] == '-';
+    if (minus)
+        at++;
+
+    size_t first = at;
+    int32_t value = 0;
+    while (at < len && at - first < MOST_DIGITS && rest[at] >= '0' && rest[at] <= '9') {
+        value = value * 10 + (rest[at] - '0');
+        at++;
+    }
+    if (at == first)
+        return 0;                                           /* no digit */
+    if (rest[first] == '0' && (at - first > 1 || minus))
+        return 0;                                           /* leading zero, or -0 */
+    if (at == len || rest[at] != '\n')
+        return 0;                                           /* cut off, a sixth digit, anything else */
+
+    *number = minus ? -value : value;
+    return at + 1;
+}
+
+/* Reads one record from the start of `rest`. Gives its length, or 0 if there is none. */
+static size_t read_record(const uint8_t *rest, size_t len, record *event)
+{
+    size_t at = 0, line;
+
+    if ((line = read_line(rest + at, len - at, "kind=", &event->kind)) == 0)
+        return 0;
+    at += line;
+    if ((line = read_line(rest + at, len - at, "a=", &event->a)) == 0)
+        return 0;
+    at += line;
+    if ((line = read_line(rest + at, len - at, "b=", &event->b)) == 0)
+        return 0;
+    at += line;
+    if ((line = read_line(rest + at, len - at, "c=", &event->c)) == 0)
+        return 0;
+    return at + line;
+}
+
+/* ---- writing ---- */
+
+/* "code=6\nreply=255\nalert=1\ntherm=1\n" */
+enum { LONGEST_ANSWER = 7 + 10 + 8 + 8 };
+
+/* How many digits a number 0..999 takes. */
+static size_t digits(int number)
+{
+    return number < 10 ? 1 : number < 100 ? 2 : 3;
+}
+
+static inline size_t line_length(const char *name, int number)
+{
+    return strlen(name) + digits(number) + 1;
+}
+
+static size_t answer_length(second_answer answer)
+{
+    return line_length("code=", answer.code) + line_length("reply=", answer.reply)
+         + line_length("alert=", answer.alert) + line_length("therm=", answer.therm);
+}
+
+/* Writes one line and gives the place behind it. */
+static inline uint8_t *write_line(uint8_t *to, const char *name, int number)
+{
+    size_t length = strlen(name);
+    memcpy(to, name, length);
+    to += length;
+    if (number >= 100)
+        *to++ = (uint8_t)('0' + number / 100);
+    if (number >= 10)
+        *to++ = (uint8_t)('0' + number / 10 % 10);
+    *to++ = (uint8_t)('0' + number % 10);
+    *to++ = '\n';
+    return to;
+}
+
+/* Writes an answer, answer_length(answer) bytes and no more, and gives that length. */
+static size_t write_answer(uint8_t *output, second_answer answer)
+{
+    uint8_t *to = output;
+    to = write_line(to, "code=", answer.code);
+    to = write_line(to, "reply=", answer.reply);
+    to = write_line(to, "alert=", answer.alert);
+    to = write_line(to, "therm=", answer.therm);
+    return (size_t)(to - output);
+}
+
+static void write_word(uint8_t *to, size_t number)
+{
+    for (int i = 0; i < 4; i++)
+        to[i] = (uint8_t)(number >> (8 * i) & 0xFF);
+}
+
+/* ---- the replay ---- */
+
+/* Whether the event's answer fits in `room` bytes; where that is not plain, it is
+   tried on a copy. Changes neither the chip nor the counters. */
+static bool answer_fits(const second_chip *chip, const record *event, size_t room)
+{
+    if (room >= LONGEST_ANSWER)
+        return true;
+    second_seen counts = second_seen_counts;
+    second_chip trial = *chip;
+    second_answer answer = second_step(&trial, event->kind, event->a, event->b, event->c);
+    second_seen_counts = counts;
+    return answer_length(answer) <= room;
+}
+
+int32_t second_replay(int32_t address,
+                      const uint8_t *trace, size_t trace_len,
+                      uint8_t *output, size_t output_len,
+                      uint8_t *report, size_t report_len)
+{
+    second_chip chip;
+    size_t records = 0, used = 0, written = 0;
+    int32_t code = SECOND_DONE;
+
+    if (second_fresh(&chip, address) != SECOND_DONE || trace_len > SECOND_MOST_BYTES
+        || output_len > SECOND_MOST_BYTES || report_len != SECOND_REPORT_BYTES)
+        return SECOND_BAD_FIELD;
+
+    while (used < trace_len) {
+        record event;
+        size_t length = read_record(trace + used, trace_len - used, &event);
+        if (length == 0) {
+            code = SECOND_MALFORMED;
+            SECOND_SEEN(code[SECOND_MALFORMED]);
+            break;
+        }
+        if (!answer_fits(&chip, &event, output_len - written)) {
+            code = SECOND_NO_ROOM;
+            SECOND_SEEN(code[SECOND_NO_ROOM]);
+            break;
+        }
+        second_answer answer = second_step(&chip, event.kind, event.a, event.b, event.c);
+        written += write_answer(output + written, answer);
+        used += length;
+        records++;
+    }
+
+    write_word(report, (size_t)code);
+    write_word(report + 4, records);
+    write_word(report + 8, used);
+    write_word(report + 12, written);
+    return code;
+}

@@ -1,0 +1,998 @@
+/* second_test.c - tests from document 01's cases and rules; expected values are from the document. */
+#include "second.h"
+
+#include <stdbool.h>
+#include <stdio.h>
+#include <stdlib.h>
+#include <string.h>
+
+static int passed, failed;
+
+static void check_at(int line, bool good, const char *what)
+{
+    if (good) {
+        passed++;
+    } else {
+        failed++;
+        printf("line %d: %s\n", line, what);
+    }
+}
+#define CHECK(condition) check_at(__LINE__, (condition), #condition)
+
+static void step_at(int line, second_chip *chip, int32_t kind, int32_t a, int32_t b, int32_t c,
+                    int code, int reply, int alert, int therm)
+{
+    second_chip before = *chip;
+    second_answer got = second_step(chip, kind, a, b, c);
+    bool good = got.code == code && got.reply == reply && got.alert == alert && got.therm == therm;
+    if (code != 0 && memcmp(&before, chip, sizeof before) != 0)
+        good = false;
+    if (!good)
+        printf("line %d: event %d %d %d %d answered %d %d %d %d, not %d %d %d %d\n", line, (int)kind,
+               (int)a, (int)b, (int)c, got.code, got.reply, got.alert, got.therm, code, reply, alert, therm);
+    if (good)
+        passed++;
+    else
+        failed++;
+}
+/* chip, kind, a, b, c, then code, reply, alert, therm */
+#define STEP(...) step_at(__LINE__, __VA_ARGS__)
+
+static second_chip fresh(void)
+{
+    second_chip chip;
+    (void)second_fresh(&chip, 76);
+    return chip;
+}
+
+/* Short forms for tests that look only at part of the answer. */
+static int reading(second_chip *chip, int command)
+{
+    second_answer answer = second_step(chip, 3, chip->address, command, 0);
+    return answer.code == 0 ? answer.reply : -answer.code;
+}
+
+static second_answer writing(second_chip *chip, int command, int data)
+{
+    return second_step(chip, 2, chip->address, command, data);
+}
+
+static second_answer converting(second_chip *chip, int32_t local, int32_t remote, int32_t open)
+{
+    (void)second_step(chip, 6, 0, 0, 0);
+    return second_step(chip, 7, local, remote, open);
+}
+
+static int status(second_chip *chip) { return reading(chip, 0x02); }
+
+/* ---- fresh states and code 6 ---- */
+
+static bool all_zero(const second_chip *chip)
+{
+    second_chip zero;
+    memset(&zero, 0, sizeof zero);
+    return memcmp(chip, &zero, sizeof zero) == 0;
+}
+
+static void test_fresh(void)
+{
+    static const int32_t bad[] = { 75, 78, 0, -1, 12, 128, 332, 256 + 76, INT32_MIN, INT32_MAX };
+    second_chip chip;
+
+    CHECK(second_fresh(&chip, 76) == 0 && chip.address == 76);
+    CHECK(second_fresh(&chip, 77) == 0 && chip.address == 77);
+    for (size_t i = 0; i < sizeof bad / sizeof *bad; i++) {
+        memset(&chip, 0xA5, sizeof chip);
+        CHECK(second_fresh(&chip, bad[i]) == 2);
+        CHECK(all_zero(&chip));
+        STEP(&chip, 0, 0, 0, 0, 6, 0, 1, 1);
+        STEP(&chip, 9, 0, 0, 0, 6, 0, 1, 1);      /* 6 comes before 1 */
+        STEP(&chip, 3, 0, 0, 0, 6, 0, 1, 1);
+    }
+}
+
+static void test_bad_state(void)
+{
+    second_chip chip = fresh();
+
+    chip.run = 4;
+    STEP(&chip, 1, 76, 0, 0, 0, 0, 1, 1);
+    chip.run = 5;
+    STEP(&chip, 1, 76, 0, 0, 6, 0, 1, 1);
+    chip = fresh();
+    chip.address = 75;
+    STEP(&chip, 1, 75, 0, 0, 6, 0, 1, 1);
+    chip.address = 78;
+    STEP(&chip, 1, 78, 0, 0, 6, 0, 1, 1);
+
+    /* every bit of the file: well formed exactly if the register keeps it */
+    for (int i = 0; i < SECOND_REGISTERS; i++)
+        for (int bit = 0; bit < 8; bit++) {
+            bool hole = (i >= 0x09 && i <= 0x0F) || (i >= 0x15 && i <= 0x18) || (i >= 0x1A && i <= 0x1F);
+            bool fraction = i == 0x10 || (i >= 0x12 && i <= 0x14);
+            bool kept = !hole && !(fraction && bit < 6)
+                && !(i == 0x03 && bit != 7 && bit != 6 && bit != 5 && bit != 2);
+            chip = fresh();
+            chip.reg[i] = (uint8_t)(chip.reg[i] | 1 << bit);
+            CHECK(second_step(&chip, 1, 76, 0, 0).code == (kept ? 0 : 6));
+        }
+    for (int bit = 0; bit < 8; bit++) {
+        chip = fresh();
+        chip.found = (uint8_t)(1 << bit);
+        CHECK(second_step(&chip, 1, 76, 0, 0).code == (bit >= 2 && bit <= 6 ? 0 : 6));
+        chip = fresh();
+        chip.converted = (uint8_t)(1 << bit);
+        CHECK(second_step(&chip, 1, 76, 0, 0).code == (bit <= 1 ? 0 : 6));
+        chip = fresh();
+        chip.alert_latch = (uint8_t)(1 << bit);
+        CHECK(second_step(&chip, 1, 76, 0, 0).code == (bit == 0 ? 0 : 6));
+    }
+    /* the lines are read from the refused state */
+    chip = fresh();
+    (void)converting(&chip, 20, 341, 0);
+    chip.run = 9;
+    STEP(&chip, 8, 0, 0, 0, 6, 0, 0, 0);
+}
+
+/* ---- the other codes ---- */
+
+static void test_codes(void)
+{
+    second_chip chip = fresh();
+
+    /* 1 */
+    STEP(&chip, -1, 0, 0, 0, 1, 0, 1, 1);
+    STEP(&chip, 8, 0, 0, 0, 1, 0, 1, 1);
+    STEP(&chip, INT32_MIN, 0, 0, 0, 1, 0, 1, 1);
+    STEP(&chip, INT32_MAX, -1, -1, -1, 1, 0, 1, 1);      /* 1 before 2 */
+
+    /* 2: unused fields */
+    static const int unused[8][3] = {
+        { 1, 1, 1 }, { 0, 0, 1 }, { 0, 0, 0 }, { 0, 0, 1 }, { 0, 1, 1 }, { 1, 1, 1 }, { 1, 1, 1 }, { 0, 0, 0 } };
+    for (int32_t kind = 0; kind < 8; kind++)
+        for (int field = 0; field < 3; field++)
+            if (unused[kind][field])
+                for (int32_t value = -1; value <= 1; value += 2) {
+                    int32_t f[3] = { kind >= 1 && kind <= 4 ? 76 : 0, 0, 0 };
+                    f[field] = value;
+                    STEP(&chip, kind, f[0], f[1], f[2], 2, 0, 1, 1);
+                }
+
+    /* 2: ranges, before 3 and 5 */
+    for (int32_t kind = 1; kind <= 4; kind++) {
+        STEP(&chip, kind, -1, 0, 0, 2, 0, 1, 1);
+        STEP(&chip, kind, 128, 0, 0, 2, 0, 1, 1);
+        STEP(&chip, kind, 0, 0, 0, 3, 0, 1, 1);
+        STEP(&chip, kind, 127, 0, 0, 3, 0, 1, 1);
+        STEP(&chip, kind, 12, 0, 0, 3, 0, 1, 1);
+        STEP(&chip, kind, 77, 0, 0, 3, 0, 1, 1);
+        if (kind != 4) {
+            STEP(&chip, kind, 5, -1, 0, 2, 0, 1, 1);
+            STEP(&chip, kind, 5, 256, 0, 2, 0, 1, 1);
+            STEP(&chip, kind, 5, 255, 0, 3, 0, 1, 1);
+        }
+    }
+    STEP(&chip, 2, 5, 0, -1, 2, 0, 1, 1);
+    STEP(&chip, 2, 5, 0, 256, 2, 0, 1, 1);
+    STEP(&chip, 2, 5, 0, 255, 3, 0, 1, 1);
+    STEP(&chip, 7, -8193, 0, 0, 2, 0, 1, 1);
+    STEP(&chip, 7, 8192, 0, 0, 2, 0, 1, 1);
+    STEP(&chip, 7, 0, -32769, 0, 2, 0, 1, 1);
+    STEP(&chip, 7, 0, 32768, 0, 2, 0, 1, 1);
+    STEP(&chip, 7, 0, 0, -1, 2, 0, 1, 1);
+    STEP(&chip, 7, 0, 0, 2, 2, 0, 1, 1);
+    STEP(&chip, 7, -8192, -32768, 1, 5, 0, 1, 1);
+    STEP(&chip, 7, 8191, 32767, 0, 5, 0, 1, 1);
+
+    /* 3 at kind 5, 4, 5 */
+    STEP(&chip, 5, 0, 0, 0, 3, 0, 1, 1);
+    STEP(&chip, 6, 0, 0, 0, 0, 0, 1, 1);
+    STEP(&chip, 6, 0, 0, 0, 4, 0, 1, 1);
+    CHECK(status(&chip) == 0x80);
+    STEP(&chip, 7, 20, 100, 0, 0, 0, 1, 1);
+    CHECK(status(&chip) == 0);
+    STEP(&chip, 7, 20, 100, 0, 5, 0, 1, 1);
+    STEP(&chip, 2, 76, 0x09, 0x40, 0, 0, 1, 1);
+    STEP(&chip, 6, 0, 0, 0, 4, 0, 1, 1);
+    STEP(&chip, 2, 76, 0x0F, 0, 0, 0, 1, 1);
+    STEP(&chip, 6, 0, 0, 0, 4, 0, 1, 1);
+    STEP(&chip, 7, 20, 100, 0, 0, 0, 1, 1);
+
+    /* address 77 */
+    CHECK(second_fresh(&chip, 77) == 0);
+    STEP(&chip, 3, 77, 0xFE, 0, 0, 0x41, 1, 1);
+    STEP(&chip, 3, 76, 0xFE, 0, 3, 0, 1, 1);
+    STEP(&chip, 6, 0, 0, 0, 0, 0, 1, 1);
+    STEP(&chip, 7, 20, 100, 1, 0, 0, 0, 1);
+    STEP(&chip, 5, 0, 0, 0, 0, 155, 0, 1);
+}
+
+/* ---- registers ---- */
+
+/* Power-on reply of each read address, from the document. */
+static int power_on(int at)
+{
+    switch (at) {
+    case 0x05: case 0x07: case 0x19: case 0x20: return 0x55;
+    case 0x04: return 0x08;
+    case 0x21: return 0x0A;
+    case 0x22: return 0x01;
+    case 0xFE: return 0x41;
+    case 0xFF: return 0x51;
+    default:   return 0x00;
+    }
+}
+
+/* Read address that shows what a write command stored, and what is kept of it; -1: nothing. */
+static int shown_at(int command, int *kept)
+{
+    *kept = 0xFF;
+    switch (command) {
+    case 0x09: *kept = 0xE4; return 0x03;
+    case 0x0A: return 0x04;
+    case 0x0B: return 0x05;
+    case 0x0C: return 0x06;
+    case 0x0D: return 0x07;
+    case 0x0E: return 0x08;
+    case 0x12: case 0x13: case 0x14: *kept = 0xC0; return command;
+    case 0x11: case 0x19: case 0x20: case 0x21: case 0x22: return command;
+    default: return -1;
+    }
+}
+
+static void test_registers(void)
+{
+    second_chip chip = fresh();
+
+    STEP(&chip, 4, 76, 0, 0, 0, 0, 1, 1);
+    for (int at = 0; at < 256; at++)
+        CHECK(reading(&chip, at) == power_on(at));
+
+    for (int command = 0; command < 256; command++)
+        for (int data = 0; data < 256; data++) {
+            int kept, target = shown_at(command, &kept);
+            bool good = true;
+            chip = fresh();
+            STEP(&chip, 2, 76, command, data, 0, 0, 1, 1);
+            good = good && chip.pointer == command;
+            for (int at = 0; at < 256; at++)
+                good = good && reading(&chip, at) == (at == target ? (data & kept) : power_on(at));
+            CHECK(good);
+        }
+
+    /* the pointer */
+    chip = fresh();
+    STEP(&chip, 1, 76, 0xFF, 0, 0, 0, 1, 1);
+    STEP(&chip, 4, 76, 0, 0, 0, 0x51, 1, 1);
+    STEP(&chip, 4, 76, 0, 0, 0, 0x51, 1, 1);
+    STEP(&chip, 3, 76, 0x04, 0, 0, 0x08, 1, 1);
+    STEP(&chip, 4, 76, 0, 0, 0, 0x08, 1, 1);
+    STEP(&chip, 2, 76, 0x19, 0x33, 0, 0, 1, 1);
+    STEP(&chip, 4, 76, 0, 0, 0, 0x33, 1, 1);
+    STEP(&chip, 2, 76, 0x0B, 0x34, 0, 0, 1, 1);
+    STEP(&chip, 4, 76, 0, 0, 0, 0, 1, 1);                /* 0B is no read address */
+    STEP(&chip, 2, 76, 0xFE, 0x34, 0, 0, 1, 1);
+    STEP(&chip, 4, 76, 0, 0, 0, 0x41, 1, 1);             /* a write elsewhere moves the pointer only */
+    STEP(&chip, 1, 77, 0x04, 0, 3, 0, 1, 1);
+    STEP(&chip, 4, 76, 0, 0, 0, 0x41, 1, 1);             /* a refused event leaves it */
+
+    /* reset keeps only the address */
+    (void)second_fresh(&chip, 77);
+    (void)writing(&chip, 0x0A, 3);
+    (void)converting(&chip, 100, 400, 1);
+    (void)second_step(&chip, 6, 0, 0, 0);
+    STEP(&chip, 0, 0, 0, 0, 0, 0, 1, 1);
+    second_chip again;
+    (void)second_fresh(&again, 77);
+    CHECK(memcmp(&again, &chip, sizeof chip) == 0);
+}
+
+/* ---- standby and one-shot ---- */
+
+static void test_standby(void)
+{
+    second_chip chip = fresh();
+
+    /* going to standby ends a running conversion with no result */
+    (void)second_step(&chip, 6, 0, 0, 0);
+    (void)writing(&chip, 0x09, 0x40);
+    CHECK(status(&chip) == 0 && chip.converted == 0);
+    STEP(&chip, 7, 20, 100, 0, 5, 0, 1, 1);
+    CHECK(reading(&chip, 0x00) == 0 && reading(&chip, 0x01) == 0);
+
+    /* one-shot; writing standby again does not end it, nor does leaving standby */
+    (void)writing(&chip, 0x0F, 0x77);
+    CHECK(status(&chip) == 0x80);
+    (void)writing(&chip, 0x0F, 0x77);
+    CHECK(status(&chip) == 0x80);
+    (void)writing(&chip, 0x09, 0x44);
+    CHECK(status(&chip) == 0x80);
+    (void)writing(&chip, 0x09, 0x00);
+    CHECK(status(&chip) == 0x80);
+    STEP(&chip, 7, 20, 100, 0, 0, 0, 1, 1);
+    CHECK(reading(&chip, 0x00) == 20 && reading(&chip, 0x01) == 25);
+
+    /* one-shot outside standby does nothing */
+    (void)writing(&chip, 0x0F, 0x77);
+    CHECK(status(&chip) == 0 && chip.pointer == 0x02);
+    STEP(&chip, 7, 20, 100, 0, 5, 0, 1, 1);
+
+    /* a conversion cut short is not a completed one: the row goes on */
+    chip = fresh();
+    (void)writing(&chip, 0x22, 0x03);
+    CHECK(converting(&chip, 20, 341, 0).alert == 1);
+    (void)second_step(&chip, 6, 0, 0, 0);
+    (void)writing(&chip, 0x09, 0x40);
+    (void)writing(&chip, 0x09, 0x00);
+    CHECK(converting(&chip, 20, 341, 0).alert == 0);
+
+    /* a channel never converted is not compared (value 0 would be a low fault) */
+    static const int limits[] = { 0x0B, 0x0C, 0x0D, 0x0E, 0x13, 0x14, 0x19, 0x20, 0x21 };
+    chip = fresh();
+    (void)writing(&chip, 0x09, 0x40);
+    for (size_t i = 0; i < sizeof limits / sizeof *limits; i++) {
+        STEP(&chip, 2, 76, limits[i], 0, 0, 0, 1, 1);
+        CHECK(status(&chip) == 0);
+    }
+
+    /* exactly those nine commands compare, in standby only; the fault is made by the back
+       door of a conversion whose fault a following limit change would have taken away */
+    for (int command = 0; command < 256; command++)
+        for (int standby = 0; standby <= 1; standby++) {
+            bool compares = false;
+            for (size_t i = 0; i < sizeof limits / sizeof *limits; i++)
+                compares = compares || limits[i] == command;
+            chip = fresh();
+            (void)converting(&chip, 20, 200, 0);
+            if (standby)
+                (void)writing(&chip, 0x09, 0x40);
+            chip.reg[0x06] = 20;              /* local low at the value: 20 <= 20 is a fault */
+            second_answer answer = writing(&chip, command, command == 0x0C ? 20 : command == 0x09 ? standby * 0x40 : 0x50);
+            CHECK(answer.code == 0 && answer.reply == 0);
+            CHECK((answer.alert == 0) == (compares && standby));
+            CHECK((chip.reg[0x02] >> 5 & 1) == (compares && standby));
+        }
+
+    /* a standby comparison compares both channels, with the new byte in place, whatever the
+       needed number, leaves the run count, and does not look at the diode */
+    chip = fresh();
+    (void)writing(&chip, 0x22, 0x0F);
+    (void)converting(&chip, 20, 200, 1);
+    CHECK(status(&chip) == 0x04);
+    (void)converting(&chip, 20, 200, 0);
+    CHECK(status(&chip) == 0x04 && status(&chip) == 0);
+    CHECK(second_step(&chip, 5, 0, 0, 0).alert == 1);
+    (void)writing(&chip, 0x09, 0x40);
+    STEP(&chip, 2, 76, 0x20, 19, 0, 0, 1, 0);            /* THERM only: no limit fault, no ALERT */
+    STEP(&chip, 2, 76, 0x0B, 19, 0, 0, 0, 0);
+    CHECK(chip.run == 0);
+    CHECK(status(&chip) == 0x41);
+    STEP(&chip, 2, 76, 0x0B, 20, 0, 0, 0, 0);            /* 20 is not above 20 */
+    CHECK(status(&chip) == 0x41 && status(&chip) == 0x01);
+    STEP(&chip, 2, 76, 0x20, 30, 0, 0, 0, 1);            /* 20 <= 30 - 10 */
+    STEP(&chip, 5, 0, 0, 0, 0, 153, 1, 1);
+
+    /* the open verdict stands through a standby comparison */
+    chip = fresh();
+    (void)converting(&chip, 20, 200, 1);
+    (void)writing(&chip, 0x09, 0x40);
+    (void)writing(&chip, 0x0B, 0x55);
+    CHECK(status(&chip) == 0x04 && status(&chip) == 0x04);
+
+    /* also while a one-shot runs, on the values stored before */
+    chip = fresh();
+    (void)converting(&chip, 20, 200, 0);
+    (void)writing(&chip, 0x09, 0x40);
+    (void)writing(&chip, 0x0F, 0);
+    STEP(&chip, 2, 76, 0x0D, 40, 0, 0, 0, 1);
+    CHECK(status(&chip) == 0x90);
+}
+
+/* ---- status, ALERT, THERM ---- */
+
+static void test_status(void)
+{
+    second_chip chip = fresh();
+
+    /* each limit flag on its own, from both channels; kept while the fault stands */
+    (void)converting(&chip, 86, 200, 0);
+    CHECK(status(&chip) == 0x41 && status(&chip) == 0x41);
+    (void)converting(&chip, 85, 200, 0);
+    CHECK(status(&chip) == 0x41 && status(&chip) == 0x01);    /* 85 > 75 keeps THERM */
+    (void)converting(&chip, 76, 200, 0);
+    CHECK(status(&chip) == 0x01);
+    (void)converting(&chip, 75, 200, 0);
+    CHECK(status(&chip) == 0x00);
+    (void)converting(&chip, 0, 200, 0);
+    CHECK(status(&chip) == 0x20 && status(&chip) == 0x20);
+    (void)converting(&chip, 1, 200, 0);
+    CHECK(status(&chip) == 0x20 && status(&chip) == 0x00);
+    (void)converting(&chip, 20, 0, 0);
+    CHECK(status(&chip) == 0x08 && status(&chip) == 0x08);
+    (void)converting(&chip, 20, 1, 0);
+    CHECK(status(&chip) == 0x08 && status(&chip) == 0x00);
+    (void)converting(&chip, 20, 341, 1);
+    CHECK(status(&chip) == 0x16 && status(&chip) == 0x16);
+    (void)converting(&chip, 0, 0, 0);
+    CHECK(status(&chip) == 0x3C && status(&chip) == 0x28);
+    CHECK(chip.alert_latch == 1);
+
+    /* reading by kind 4 counts the same; reading elsewhere clears nothing */
+    chip = fresh();
+    (void)converting(&chip, 86, 200, 0);
+    (void)converting(&chip, 20, 200, 0);
+    for (int at = 0; at < 256; at++)
+        if (at != 2)
+            (void)reading(&chip, at);
+    CHECK(chip.reg[0x02] == 0x40);
+    STEP(&chip, 1, 76, 2, 0, 0, 0, 0, 1);
+    CHECK(chip.reg[0x02] == 0x40);
+    STEP(&chip, 4, 76, 0, 0, 0, 0x40, 0, 1);
+    STEP(&chip, 4, 76, 0, 0, 0, 0x00, 0, 1);
+
+    /* the latch: a status read does not clear it; kind 5 replies but keeps it while a flag stands */
+    chip = fresh();
+    (void)converting(&chip, 20, 200, 1);
+    STEP(&chip, 5, 0, 0, 0, 0, 153, 0, 1);
+    (void)converting(&chip, 20, 200, 0);
+    STEP(&chip, 5, 0, 0, 0, 0, 153, 0, 1);               /* flag still latched */
+    STEP(&chip, 3, 76, 2, 0, 0, 0x04, 0, 1);
+    STEP(&chip, 5, 0, 0, 0, 0, 153, 1, 1);
+    STEP(&chip, 5, 0, 0, 0, 3, 0, 1, 1);
+    CHECK(chip.pointer == 2);
+
+    /* THERM flags alone do not hold the latch */
+    chip = fresh();
+    (void)converting(&chip, 86, 200, 0);
+    (void)converting(&chip, 80, 200, 0);
+    CHECK(status(&chip) == 0x41);
+    STEP(&chip, 5, 0, 0, 0, 0, 153, 1, 0);
+
+    /* bits 7 and 5 of the configuration hold the line high and refuse kind 5, the latch stays */
+    for (int bits = 0; bits < 4; bits++) {
+        int configuration = (bits & 1 ? 0x80 : 0) | (bits & 2 ? 0x20 : 0);
+        chip = fresh();
+        (void)writing(&chip, 0x09, configuration);
+        CHECK(converting(&chip, 20, 200, 1).alert == (bits != 0));
+        if (bits != 0)
+            STEP(&chip, 5, 0, 0, 0, 3, 0, 1, 1);
+        CHECK(writing(&chip, 0x09, 0x00).alert == 0);
+    }
+
+    /* the latch set again by the run count, once cleared, and a row broken */
+    chip = fresh();
+    (void)writing(&chip, 0x22, 0x07);                    /* needs 3 */
+    CHECK(converting(&chip, 20, 341, 0).alert == 1);
+    CHECK(converting(&chip, 0, 200, 0).alert == 1);      /* any fault counts */
+    CHECK(converting(&chip, 20, 200, 0).alert == 1);     /* broken */
+    CHECK(converting(&chip, 20, 341, 0).alert == 1);
+    CHECK(converting(&chip, 20, 0, 0).alert == 1);
+    CHECK(converting(&chip, 90, 0, 0).alert == 0);
+    /* held at 4; the needed number is looked at only at a conversion */
+    chip = fresh();
+    (void)writing(&chip, 0x22, 0x0F);
+    for (int i = 0; i < 3; i++)
+        CHECK(converting(&chip, 20, 341, 0).alert == 1);
+    CHECK(writing(&chip, 0x22, 0x01).alert == 1);
+    CHECK(converting(&chip, 20, 341, 0).alert == 0 && chip.run == 4);
+    CHECK(converting(&chip, 20, 341, 0).alert == 0 && chip.run == 4);
+    CHECK(converting(&chip, 20, 341, 0).alert == 0 && chip.run == 4);
+    CHECK(converting(&chip, 20, 200, 0).alert == 0 && chip.run == 0);
+    /* an open diode sets the latch whatever the count, and is no limit fault */
+    chip = fresh();
+    (void)writing(&chip, 0x22, 0x0F);
+    CHECK(converting(&chip, 20, 200, 1).alert == 0 && chip.run == 0);
+    CHECK(reading(&chip, 0x01) == 50);                   /* stored like any other */
+    CHECK(converting(&chip, 20, 341, 1).alert == 0 && chip.run == 1);
+    CHECK(status(&chip) == 0x16);
+}
+
+/* ---- values ---- */
+
+static int remote_code(int configuration, int high, int low, int32_t measured)
+{
+    second_chip chip = fresh();
+    (void)writing(&chip, 0x09, configuration);
+    (void)writing(&chip, 0x11, high);
+    (void)writing(&chip, 0x12, low);
+    (void)converting(&chip, 20, measured, 0);
+    int fraction = reading(&chip, 0x10);
+    return fraction % 64 != 0 ? -1 : reading(&chip, 0x01) * 4 + fraction / 64;
+}
+
+static int local_code(int configuration, int32_t measured)
+{
+    second_chip chip = fresh();
+    (void)writing(&chip, 0x09, configuration);
+    (void)converting(&chip, measured, 100, 0);
+    return reading(&chip, 0x00);
+}
+
+static void test_values(void)
+{
+    CHECK(local_code(0, -8192) == 0 && local_code(0, -1) == 0 && local_code(0, 0) == 0);
+    CHECK(local_code(0, 127) == 127 && local_code(0, 128) == 127 && local_code(0, 8191) == 127);
+    CHECK(local_code(4, -8192) == 0 && local_code(4, -65) == 0 && local_code(4, -64) == 0);
+    CHECK(local_code(4, -63) == 1 && local_code(4, 0) == 64 && local_code(4, 191) == 255);
+    CHECK(local_code(4, 192) == 255 && local_code(4, 8191) == 255);
+
+    CHECK(remote_code(0, 0, 0, -32768) == 0 && remote_code(0, 0, 0, 32767) == 511);
+    CHECK(remote_code(4, 0, 0, -32768) == 0 && remote_code(4, 0, 0, 32767) == 1023);
+    CHECK(remote_code(0, 0, 0, 511) == 511 && remote_code(0, 0, 0, 510) == 510);
+    CHECK(remote_code(4, 0, 0, -256) == 0 && remote_code(4, 0, 0, -255) == 1);
+    CHECK(remote_code(4, 0, 0, 767) == 1023 && remote_code(4, 0, 0, 766) == 1022);
+    /* the offset before the clamp, and in 001's sample codes */
+    CHECK(remote_code(0, 0xFF, 0x00, 600) == 511 && remote_code(0, 0xFF, 0x00, 512) == 508);
+    CHECK(remote_code(0, 0x01, 0x00, -3) == 1);
+    CHECK(remote_code(4, 0xFF, 0x00, 770) == 1022 && remote_code(4, 0x01, 0x00, -258) == 2);
+    CHECK(remote_code(0, 0xFC, 0x00, 100) == 84 && remote_code(0, 0x04, 0x00, 100) == 116);
+    CHECK(remote_code(0, 0x00, 0x40, 100) == 101 && remote_code(0, 0xFF, 0xC0, 100) == 99);
+    for (int32_t measured = -40; measured <= 1100; measured++) {
+        int32_t code = measured < 0 ? 0 : measured > 511 ? 511 : measured;
+        if (remote_code(0, 0, 0, measured) != code)
+            CHECK(!"every code");
+    }
+
+    /* a range change alters no stored value, limit or flag until the next conversion; 55 is then 21 degrees */
+    second_chip chip = fresh();
+    (void)converting(&chip, 20, 341, 0);
+    STEP(&chip, 2, 76, 0x09, 0x04, 0, 0, 0, 0);
+    CHECK(reading(&chip, 0x00) == 20 && reading(&chip, 0x01) == 0x55 && reading(&chip, 0x10) == 0x40);
+    CHECK(reading(&chip, 0x05) == 0x55 && status(&chip) == 0x12);
+    (void)converting(&chip, 21, 84, 0);                  /* 85 and 340: at the limit */
+    CHECK(reading(&chip, 0x00) == 85 && status(&chip) == 0x12 && status(&chip) == 0x02);
+    (void)converting(&chip, 22, 85, 0);
+    CHECK(status(&chip) == 0x53);
+
+    /* low bytes of the limits count */
+    chip = fresh();
+    (void)writing(&chip, 0x0D, 50);
+    (void)writing(&chip, 0x13, 0x80);
+    (void)writing(&chip, 0x0E, 10);
+    (void)writing(&chip, 0x14, 0xC0);
+    (void)converting(&chip, 20, 202, 0);
+    CHECK(status(&chip) == 0);
+    (void)converting(&chip, 20, 203, 0);
+    CHECK(status(&chip) == 0x10);
+    (void)converting(&chip, 20, 44, 0);
+    CHECK(status(&chip) == 0x10 && status(&chip) == 0);
+    (void)converting(&chip, 20, 43, 0);
+    CHECK(status(&chip) == 0x08);
+}
+
+/* ---- the bench cases ---- */
+
+static void test_bench_cases(void)
+{
+    second_chip chip;
+
+    /* K1, K2 */
+    chip = fresh();
+    (void)converting(&chip, 20, 340, 0);
+    CHECK((status(&chip) & 0x10) == 0);
+    (void)converting(&chip, 20, 341, 0);
+    CHECK((status(&chip) & 0x10) != 0);
+    chip = fresh();
+    (void)converting(&chip, 20, 0, 0);
+    CHECK(status(&chip) == 0x08);
+
+    /* K3 to K7 */
+    CHECK(remote_code(0, 0, 0, -10) == 0);
+    CHECK(remote_code(4, 0, 0, -10) == 0x3D * 4 + 2);
+    CHECK(remote_code(4, 0, 0, 600) == 0xD6 * 4);
+    CHECK(remote_code(0, 0, 0, 512) == 0x7F * 4 + 3);
+    CHECK(remote_code(4, 0, 0, 768) == 0xFF * 4 + 3);
+    CHECK(remote_code(0, 0xFF, 0x00, 341) == 0x54 * 4 + 1);
+    CHECK(remote_code(0, 0x80, 0x00, 1000) == 488);
+    CHECK(remote_code(0, 0x7F, 0xC0, -500) == 11);
+
+    /* K8 */
+    chip = fresh();
+    CHECK(converting(&chip, 20, 341, 0).therm == 0);
+    CHECK(converting(&chip, 20, 301, 0).therm == 0);
+    CHECK(converting(&chip, 20, 300, 0).therm == 1);
+    CHECK(converting(&chip, 20, 301, 0).therm == 1);
+
+    /* K9, remote and local */
+    chip = fresh();
+    (void)writing(&chip, 0x21, 90);
+    CHECK(converting(&chip, 20, 341, 0).therm == 0);
+    CHECK(converting(&chip, 20, 1, 0).therm == 0);
+    CHECK(converting(&chip, 20, 0, 0).therm == 1);
+    CHECK(converting(&chip, 86, 200, 0).therm == 0);
+    CHECK(converting(&chip, 1, 200, 0).therm == 0);
+    CHECK(converting(&chip, 0, 200, 0).therm == 1);
+
+    /* K10 */
+    static const int pattern[] = { 0x01, 0x03, 0x07, 0x0F, 0x05, 0x0B };
+    static const int needs[] = { 1, 2, 3, 4, 1, 2 };
+    for (int i = 0; i < 6; i++)
+        for (int other = 0; other < 0x100; other += 0x10) {
+            chip = fresh();
+            (void)writing(&chip, 0x22, pattern[i] | other);
+            for (int n = 1; n <= 4; n++)
+                CHECK(converting(&chip, 20, 341, 0).alert == (n < needs[i]));
+        }
+
+    /* the whole case, and K11 going on from it */
+    chip = fresh();
+    STEP(&chip, 6, 0, 0, 0, 0, 0, 1, 1);
+    STEP(&chip, 7, 20, 341, 0, 0, 0, 0, 0);
+    STEP(&chip, 3, 76, 2, 0, 0, 18, 0, 0);
+    STEP(&chip, 3, 76, 2, 0, 0, 18, 0, 0);
+    STEP(&chip, 6, 0, 0, 0, 0, 0, 0, 0);
+    STEP(&chip, 7, 20, 300, 0, 0, 0, 0, 1);
+    STEP(&chip, 3, 76, 2, 0, 0, 16, 0, 1);
+    STEP(&chip, 3, 76, 2, 0, 0, 0, 0, 1);
+    STEP(&chip, 5, 0, 0, 0, 0, 153, 1, 1);
+    STEP(&chip, 5, 0, 0, 0, 3, 0, 1, 1);
+
+    /* K12 */
+    chip = fresh();
+    (void)converting(&chip, 20, 200, 0);
+    STEP(&chip, 2, 76, 0x09, 64, 0, 0, 1, 1);
+    STEP(&chip, 2, 76, 0x0D, 40, 0, 0, 0, 1);
+    CHECK(status(&chip) == 0x10);
+    chip = fresh();
+    (void)converting(&chip, 20, 200, 0);
+    STEP(&chip, 2, 76, 0x0D, 40, 0, 0, 1, 1);
+    CHECK(status(&chip) == 0);
+    STEP(&chip, 6, 0, 0, 0, 0, 0, 1, 1);
+    STEP(&chip, 7, 20, 200, 0, 0, 0, 0, 1);
+    CHECK(status(&chip) == 0x10);
+}
+
+/* ---- traces ---- */
+
+enum { ROOM = 4096, UNTOUCHED = 0xEE };
+
+typedef struct {
+    int32_t code;
+    uint32_t word[4];
+    uint8_t output[ROOM];
+} outcome;
+
+/* Replays with exactly sized heap copies, so that the sanitizer sees a step outside. */
+static outcome replaying(int32_t address, const void *trace, size_t len, size_t room)
+{
+    outcome got;
+    uint8_t *exact_in = len ? malloc(len) : NULL, *exact_out = room ? malloc(room) : NULL, report[16];
+    if ((len && !exact_in) || (room && !exact_out))
+        abort();
+    if (len)
+        memcpy(exact_in, trace, len);
+    if (room)
+        memset(exact_out, UNTOUCHED, room);
+    memset(report, UNTOUCHED, sizeof report);
+    got.code = second_replay(address, exact_in, len, exact_out, room, report, 16);
+    memset(got.output, UNTOUCHED, ROOM);
+    if (room)
+        memcpy(got.output, exact_out, room < ROOM ? room : ROOM);
+    for (int i = 0; i < 4; i++)
+        got.word[i] = (uint32_t)report[4 * i] | (uint32_t)report[4 * i + 1] << 8
+                    | (uint32_t)report[4 * i + 2] << 16 | (uint32_t)report[4 * i + 3] << 24;
+    free(exact_in);
+    free(exact_out);
+    return got;
+}
+
+/* Whether the replay gave these answers, then nothing more, and a report that says so. */
+static void replay_at(int line, int32_t address, const char *trace, size_t len, size_t room,
+                      int32_t code, uint32_t records, uint32_t used, const char *answers)
+{
+    outcome got = replaying(address, trace, len, room);
+    size_t written = strlen(answers);
+    bool good = got.code == code && got.word[0] == (uint32_t)code && got.word[1] == records
+        && got.word[2] == used && got.word[3] == written && memcmp(got.output, answers, written) == 0;
+    for (size_t i = written; i < ROOM; i++)
+        good = good && got.output[i] == UNTOUCHED;
+    check_at(line, good, "replay");
+    if (!good)
+        printf("  code %d records %u used %u written %u\n", (int)got.code, got.word[1], got.word[2], got.word[3]);
+}
+#define REPLAY(trace, room, code, records, used, answers) \
+    replay_at(__LINE__, 76, trace, strlen(trace), room, code, records, used, answers)
+
+#define RECORD(k, a, b, c) "kind=" #k "\na=" #a "\nb=" #b "\nc=" #c "\n"
+#define ANSWER(code, reply, alert, therm) \
+    "code=" #code "\nreply=" #reply "\nalert=" #alert "\ntherm=" #therm "\n"
+
+#define WHOLE_CASE RECORD(6, 0, 0, 0) RECORD(7, 20, 341, 0) RECORD(3, 76, 2, 0)
+#define WHOLE_ANSWERS ANSWER(0, 0, 1, 1) ANSWER(0, 0, 0, 0) ANSWER(0, 18, 0, 0)
+#define K11 RECORD(3, 76, 2, 0) RECORD(6, 0, 0, 0) RECORD(7, 20, 300, 0) RECORD(3, 76, 2, 0) \
+    RECORD(3, 76, 2, 0) RECORD(5, 0, 0, 0) RECORD(5, 0, 0, 0)
+#define K11_ANSWERS ANSWER(0, 18, 0, 0) ANSWER(0, 0, 0, 0) ANSWER(0, 0, 0, 1) ANSWER(0, 16, 0, 1) \
+    ANSWER(0, 0, 0, 1) ANSWER(0, 153, 1, 1) ANSWER(3, 0, 1, 1)
+
+static void test_replay(void)
+{
+    const char *whole = "kind=6\na=0\nb=0\nc=0\nkind=7\na=20\nb=341\nc=0\nkind=3\na=76\nb=2\nc=0\n";
+    CHECK(strcmp(whole, WHOLE_CASE) == 0);
+
+    REPLAY("", ROOM, 0, 0, 0, "");
+    REPLAY("", 0, 0, 0, 0, "");
+    REPLAY(WHOLE_CASE, ROOM, 0, 3, (uint32_t)strlen(whole), WHOLE_ANSWERS);
+    REPLAY(WHOLE_CASE K11, ROOM, 0, 10, (uint32_t)strlen(WHOLE_CASE K11), WHOLE_ANSWERS K11_ANSWERS);
+
+    /* codes 1 to 5 are answered and the replay goes on */
+#define REFUSED RECORD(8, 0, 0, 0) RECORD(-1, 0, 0, 0) RECORD(99999, -99999, 99999, -99999) \
+    RECORD(0, 1, 0, 0) RECORD(3, 76, 256, 0) RECORD(3, 77, 2, 0) RECORD(5, 0, 0, 0) RECORD(7, 0, 0, 0) \
+    RECORD(6, 0, 0, 0) RECORD(6, 0, 0, 0) RECORD(7, -8192, -32768, 1) RECORD(3, 76, 2, 0) RECORD(3, 76, 255, 0)
+#define REFUSED_ANSWERS ANSWER(1, 0, 1, 1) ANSWER(1, 0, 1, 1) ANSWER(1, 0, 1, 1) \
+    ANSWER(2, 0, 1, 1) ANSWER(2, 0, 1, 1) ANSWER(3, 0, 1, 1) ANSWER(3, 0, 1, 1) ANSWER(5, 0, 1, 1) \
+    ANSWER(0, 0, 1, 1) ANSWER(4, 0, 1, 1) ANSWER(0, 0, 0, 1) ANSWER(0, 44, 0, 1) ANSWER(0, 81, 0, 1)
+    REPLAY(REFUSED, ROOM, 0, 13, (uint32_t)strlen(REFUSED), REFUSED_ANSWERS);
+
+    /* the same trace, address 77 */
+    replay_at(__LINE__, 77, RECORD(3, 76, 254, 0) RECORD(3, 77, 254, 0), 44, ROOM, 0, 2, 44,
+              ANSWER(3, 0, 1, 1) ANSWER(0, 65, 1, 1));
+}
+
+static void test_malformed(void)
+{
+    static const char *const bad[] = {
+        /* wrong, missing or misplaced names */
+        "Kind=0\na=0\nb=0\nc=0\n", "kin=0\na=0\nb=0\nc=0\n", "kinds=0\na=0\nb=0\nc=0\n", "a=0\nb=0\nc=0\n",
+        "kind=0\nb=0\na=0\nc=0\n", "kind=0\na=0\nc=0\n", "kind=0\na=0\nb=0\nb=0\n", "kind=0\nA=0\nb=0\nc=0\n",
+        "kind=0\na=0\nb=0\nd=0\n", "=0\na=0\nb=0\nc=0\n", "kind0\na=0\nb=0\nc=0\n", "kind:0\na=0\nb=0\nc=0\n",
+        "kind==0\na=0\nb=0\nc=0\n", "kind=0\na=0\nb=0\nkind=0\na=0\nb=0\nc=0\n",
+        /* spaces, empty lines, other line ends */
+        " kind=0\na=0\nb=0\nc=0\n", "kind =0\na=0\nb=0\nc=0\n", "kind= 0\na=0\nb=0\nc=0\n",
+        "kind=0 \na=0\nb=0\nc=0\n", "\nkind=0\na=0\nb=0\nc=0\n", "kind=0\n\na=0\nb=0\nc=0\n",
+        "kind=0\r\na=0\r\nb=0\r\nc=0\r\n", "kind=0\ra=0\rb=0\rc=0\r", "kind=0\ta=0\tb=0\tc=0\t",
+        "kind=0,a=0,b=0,c=0\n", "kind=0\na=0\nb=0\nc=0;\n", "\xEF\xBB\xBFkind=0\na=0\nb=0\nc=0\n",
+        "\n", "\n\n\n\n", " ", "#\n", "x",
+        /* numbers */
+        "kind=\na=0\nb=0\nc=0\n", "kind=-\na=0\nb=0\nc=0\n", "kind=+0\na=0\nb=0\nc=0\n", "kind=+1\na=0\nb=0\nc=0\n",
+        "kind=-0\na=0\nb=0\nc=0\n", "kind=00\na=0\nb=0\nc=0\n", "kind=01\na=0\nb=0\nc=0\n",
+        "kind=-01\na=0\nb=0\nc=0\n", "kind=-00\na=0\nb=0\nc=0\n", "kind=--1\na=0\nb=0\nc=0\n",
+        "kind=1-\na=0\nb=0\nc=0\n", "kind=100000\na=0\nb=0\nc=0\n", "kind=-100000\na=0\nb=0\nc=0\n",
+        "kind=000000\na=0\nb=0\nc=0\n", "kind=0x1\na=0\nb=0\nc=0\n", "kind=1.0\na=0\nb=0\nc=0\n",
+        "kind=1e1\na=0\nb=0\nc=0\n", "kind=/\na=0\nb=0\nc=0\n", "kind=:\na=0\nb=0\nc=0\n", "kind=a\na=0\nb=0\nc=0\n",
+        "kind=99999999999999999999\na=0\nb=0\nc=0\n",
+        "kind=0\na=\nb=0\nc=0\n", "kind=0\na=-0\nb=0\nc=0\n", "kind=0\na=00\nb=0\nc=0\n", "kind=0\na=123456\nb=0\nc=0\n",
+        "kind=0\na=0\nb=\nc=0\n", "kind=0\na=0\nb=-0\nc=0\n", "kind=0\na=0\nb=07\nc=0\n", "kind=0\na=0\nb=-123456\nc=0\n",
+        "kind=0\na=0\nb=0\nc=\n", "kind=0\na=0\nb=0\nc=-0\n", "kind=0\na=0\nb=0\nc=+1\n", "kind=0\na=0\nb=0\nc=1 \n",
+        "kind=0\na=0\nb=0\nc=0",
+    };
+    static const char good[] = RECORD(3, 76, 254, 0);
+    static const char answer[] = ANSWER(0, 65, 1, 1);
+    char joined[256];
+
+    for (size_t i = 0; i < sizeof bad / sizeof *bad; i++) {
+        REPLAY(bad[i], ROOM, 7, 0, 0, "");
+        REPLAY(bad[i], 0, 7, 0, 0, "");                              /* 7 before 8 */
+        snprintf(joined, sizeof joined, "%s%s%s", good, bad[i], good);
+        REPLAY(joined, ROOM, 7, 1, (uint32_t)strlen(good), answer);
+        REPLAY(joined, strlen(answer), 7, 1, (uint32_t)strlen(good), answer);
+    }
+
+    /* a record cut anywhere, behind a good one */
+    static const char second[] = RECORD(7, -8192, -12345, 1);
+    snprintf(joined, sizeof joined, "%s%s", good, second);
+    for (size_t cut = 1; cut < strlen(second); cut++)
+        replay_at(__LINE__, 76, joined, strlen(good) + cut, ROOM, 7, 1, (uint32_t)strlen(good), answer);
+    replay_at(__LINE__, 76, joined, strlen(joined), ROOM, 0, 2, (uint32_t)strlen(joined),
+              ANSWER(0, 65, 1, 1) ANSWER(5, 0, 1, 1));
+
+    /* every byte of a record changed to every other value: a record again only if the
+       number stays one; a nul byte is no end */
+    for (size_t at = 0; at < strlen(good); at++)
+        for (int byte = 0; byte < 256; byte++) {
+            memcpy(joined, good, sizeof good);
+            joined[at] = (char)byte;
+            char old = good[at];
+            bool numeral = old >= '0' && old <= '9';
+            bool first = numeral && good[at - 1] == '=';
+            bool last = numeral && good[at + 1] == '\n';
+            bool digit = byte >= '0' && byte <= '9';
+            bool record = byte == old;
+            if (numeral && digit)
+                record = byte != '0' || !first || last;
+            if (numeral && byte == '-' && first && !last)
+                record = good[at + 1] != '0';
+            outcome got = replaying(76, joined, strlen(good), ROOM);
+            CHECK((got.code == 7) == !record && got.word[1] == record && got.code == (int32_t)got.word[0]);
+        }
+}
+
+static void test_rooms(void)
+{
+    static const char trace[] = WHOLE_CASE K11;
+    static const char answers[] = WHOLE_ANSWERS K11_ANSWERS;
+    static const char *const records[] = {
+        RECORD(6, 0, 0, 0), RECORD(7, 20, 341, 0), RECORD(3, 76, 2, 0), RECORD(3, 76, 2, 0), RECORD(6, 0, 0, 0),
+        RECORD(7, 20, 300, 0), RECORD(3, 76, 2, 0), RECORD(3, 76, 2, 0), RECORD(5, 0, 0, 0), RECORD(5, 0, 0, 0) };
+    static const size_t length[] = { 31, 31, 32, 32, 31, 31, 32, 31, 33, 31 };
+
+    for (size_t room = 0; room <= strlen(answers) + 40; room++) {
+        char expected[ROOM];
+        size_t written = 0, used = 0;
+        uint32_t n = 0;
+        while (n < 10 && written + length[n] <= room) {
+            written += length[n];
+            used += strlen(records[n]);
+            n++;
+        }
+        memcpy(expected, answers, written);
+        expected[written] = 0;
+        REPLAY(trace, room, n == 10 ? 0 : 8, n, (uint32_t)used, expected);
+    }
+    /* 8 at a good record before 7 at a later one; 7 at the record itself first */
+    REPLAY(RECORD(0, 0, 0, 0) "x", 30, 8, 0, 0, "");
+    REPLAY(RECORD(0, 0, 0, 0) "x", 31, 7, 1, 19, ANSWER(0, 0, 1, 1));
+
+    /* a record stopped by 8 counts nowhere but in code[8] */
+    memset(&second_seen_counts, 0, sizeof second_seen_counts);
+    REPLAY(RECORD(3, 76, 254, 0), 31, 8, 0, 0, "");
+    CHECK(second_seen_counts.code[8] == 1 && second_seen_counts.code[0] == 0 && second_seen_counts.read[254] == 0);
+    REPLAY(RECORD(3, 76, 254, 0), 32, 0, 1, 22, ANSWER(0, 65, 1, 1));
+    CHECK(second_seen_counts.code[8] == 1 && second_seen_counts.code[0] == 1 && second_seen_counts.read[254] == 1);
+}
+
+static void test_refused_replay(void)
+{
+    static const char trace[] = WHOLE_CASE;
+    enum { MOST = 16777216 };
+    uint8_t output[256], report[32], still[256];
+    static const int32_t addresses[] = { 75, 78, 0, -1, 332, INT32_MIN, INT32_MAX };
+    const uint8_t *in = (const uint8_t *)trace;
+
+    memset(still, UNTOUCHED, sizeof still);
+    memset(output, UNTOUCHED, sizeof output);
+    memset(report, UNTOUCHED, sizeof report);
+    for (size_t i = 0; i < sizeof addresses / sizeof *addresses; i++)
+        CHECK(second_replay(addresses[i], in, strlen(trace), output, 256, report, 16) == 2);
+    for (size_t len = 0; len <= 32; len++)
+        if (len != 16)
+            CHECK(second_replay(76, in, strlen(trace), output, 256, report, len) == 2);
+    CHECK(second_replay(76, in, strlen(trace), output, 256, NULL, 0) == 2);
+    CHECK(memcmp(report, still, sizeof report) == 0 && memcmp(output, still, sizeof output) == 0);
+
+    /* 16 MiB is allowed, one more is not */
+    uint8_t *big = malloc(MOST + 1), *out = malloc(MOST + 1);
+    if (!big || !out)
+        abort();
+    memset(out, UNTOUCHED, MOST + 1);
+    size_t at = 0;
+    while (at + 19 <= MOST) {
+        memcpy(big + at, RECORD(0, 0, 0, 0), 19);
+        at += 19;
+    }
+    memset(big + at, 'x', MOST + 1 - at);
+    CHECK(second_replay(76, big, MOST + 1, out, 256, report, 16) == 2);
+    CHECK(second_replay(76, in, strlen(trace), out, MOST + 1, report, 16) == 2);
+    CHECK(second_replay(76, big, SIZE_MAX, out, 256, report, 16) == 2);
+    CHECK(second_replay(76, in, strlen(trace), out, SIZE_MAX, report, 16) == 2);
+    CHECK(memcmp(report, still, sizeof report) == 0 && memcmp(out, still, sizeof still) == 0);
+    CHECK(second_replay(76, in, strlen(trace), out, MOST, report, 16) == 0);
+    CHECK(memcmp(out, WHOLE_ANSWERS, strlen(WHOLE_ANSWERS)) == 0 && out[strlen(WHOLE_ANSWERS)] == UNTOUCHED);
+    /* 31 bytes an answer: 541200 answers fit, and 16 bytes are left */
+    CHECK(second_replay(76, big, MOST, out, MOST, report, 16) == 8);
+    CHECK(report[0] == 8 && report[4] == (541200 & 0xFF) && report[5] == (541200 >> 8 & 0xFF)
+          && report[6] == 541200 >> 16 && report[7] == 0);
+    CHECK(out[MOST] == UNTOUCHED && out[541200 * 31 - 1] == '\n');
+    free(big);
+    free(out);
+}
+
+/* ---- the counters ---- */
+
+static void test_counters(void)
+{
+    second_chip chip = fresh();
+    const second_seen *seen = &second_seen_counts;
+
+    memset(&second_seen_counts, 0, sizeof second_seen_counts);
+    (void)converting(&chip, 86, 341, 1);                 /* flags 6, 4, 2; latch by open and by run */
+    CHECK(seen->flag_set[4] == 1 && seen->flag_set[2] == 1 && seen->flag_set[0] == 1);
+    CHECK(seen->flag_set[3] == 0 && seen->flag_set[1] == 0);
+    CHECK(seen->latch_by_open == 1 && seen->latch_by_run == 1 && seen->converted_open == 1);
+    CHECK(seen->converted_needed[0] == 1 && seen->converted_default == 1 && seen->converted_extended == 0);
+    (void)converting(&chip, 86, 341, 0);
+    CHECK(seen->flag_set[4] == 1 && seen->latch_by_run == 1);
+    (void)status(&chip);
+    CHECK(seen->flag_kept[4] == 1 && seen->flag_kept[2] == 1 && seen->flag_kept[0] == 0);
+    CHECK(seen->flag_cleared[0] == 1 && seen->flag_cleared[4] == 0 && seen->read[2] == 1);
+    (void)writing(&chip, 0x09, 0x44);
+    (void)writing(&chip, 0x0F, 0);
+    (void)writing(&chip, 0x0F, 0);
+    CHECK(seen->one_shots == 1 && seen->written[0x0F] == 2 && seen->written[0x09] == 1);
+    (void)writing(&chip, 0x22, 0x0F);
+    (void)second_step(&chip, 7, 0, 0, 0);
+    CHECK(seen->converted_extended == 1 && seen->converted_needed[3] == 1);
+    (void)status(&chip);
+    (void)second_step(&chip, 5, 0, 0, 0);
+    CHECK(seen->latch_cleared == 1);
+    (void)writing(&chip, 0x0B, 63);
+    CHECK(seen->standby_compares == 1 && seen->latch_by_standby == 1 && seen->flag_set[4] == 2);
+    (void)second_step(&chip, 4, 76, 0, 0);
+    CHECK(seen->read[0x0B] == 1);
+    (void)second_step(&chip, 9, 0, 0, 0);
+    CHECK(seen->code[1] == 1);
+}
+
+/* ---- random walks: what must hold of any run ---- */
+
+static uint64_t seed = 20240611;
+
+static uint32_t random_number(uint32_t below)
+{
+    seed = seed * 6364136223846793005u + 1442695040888963407u;
+    return (uint32_t)(seed >> 33) % below;
+}
+
+static void test_walks(void)
+{
+    static const int commands[] = { 0x02, 0x03, 0x09, 0x0A, 0x0B, 0x0C, 0x0D, 0x0E, 0x0F, 0x10, 0x11, 0x12,
+                                    0x13, 0x14, 0x19, 0x20, 0x21, 0x22, 0x01, 0x00 };
+    static char trace[300000];
+    static uint8_t output[600000];
+    uint8_t report[16];
+
+    for (int walk = 0; walk < 40; walk++) {
+        second_chip chip = fresh();
+        size_t used = 0, written = 0;
+        bool steady = true, lines = true;
+        static char expected[600000];
+        for (int i = 0; i < 4000; i++) {
+            int32_t kind = (int32_t)random_number(100) - 1, a = 0, b = 0, c = 0;
+            if (kind > 8)
+                kind = (int32_t)random_number(7) + 1;
+            if (kind == 0 && random_number(8))
+                kind = 5;
+            if (kind >= 1 && kind <= 4)
+                a = random_number(30) ? 76 : (int32_t)random_number(130) - 1;
+            if (kind >= 1 && kind <= 3)
+                b = random_number(20) ? commands[random_number(20)] : (int32_t)random_number(256);
+            if (kind == 2)
+                c = (int32_t)random_number(256);
+            if (kind == 7) {
+                a = (int32_t)random_number(280) - 80;
+                b = (int32_t)random_number(1400) - 300;
+                c = random_number(10) == 0;
+            }
+            second_chip before = chip;
+            second_answer answer = second_step(&chip, kind, a, b, c);
+            steady = steady && answer.code != 6
+                && (answer.code == 0 || memcmp(&before, &chip, sizeof chip) == 0);
+            lines = lines && answer.therm == ((chip.reg[2] & 3) == 0)
+                && answer.alert == !(chip.alert_latch && (chip.reg[3] & 0xA0) == 0);
+            used += (size_t)snprintf(trace + used, sizeof trace - used, "kind=%d\na=%d\nb=%d\nc=%d\n",
+                                     (int)kind, (int)a, (int)b, (int)c);
+            written += (size_t)snprintf(expected + written, sizeof expected - written,
+                                        "code=%d\nreply=%d\nalert=%d\ntherm=%d\n",
+                                        answer.code, answer.reply, answer.alert, answer.therm);
+        }
+        CHECK(steady);
+        CHECK(lines);
+        CHECK(second_replay(76, (uint8_t *)trace, used, output, sizeof output, report, 16) == 0);
+        CHECK(memcmp(output, expected, written) == 0);
+        CHECK((size_t)(report[12] | report[13] << 8 | report[14] << 16) == written);
+        /* bytes spoilt: never past the ends, never anything but 0, 7 or 8 */
+        for (int i = 0; i < 20; i++)
+            trace[random_number((uint32_t)used)] = (char)random_number(256);
+        int32_t code = second_replay(76, (uint8_t *)trace, used, output, random_number(200000), report, 16);
+        CHECK(code == 0 || code == 7 || code == 8);
+    }
+}
+
+int main(void)
+{
+    test_fresh();
+    test_bad_state();
+    test_codes();
+    test_registers();
+    test_standby();
+    test_status();
+    test_values();
+    test_bench_cases();
+    test_replay();
+    test_malformed();
+    test_rooms();
+    test_refused_replay();
+    test_counters();
+    test_walks();
+    printf("%d passed, %d failed\n", passed, failed);
+    return failed != 0;
+}
