@@ -24,7 +24,7 @@ use Rattle.rules.specs.WellFormed.{wellFormed}
 use Rattle.rules.specs.Event.{byteOf, checkOf, goodIf, isBusAddress, isByte, isLocalSample, isMark, isRemoteSample, sampleOf, unused}
 use Rattle.rules.specs.Lines.{alertLow}
 use Rattle.rules.specs.Step.{answerOf, applyOf, checkedOf, done, endOf, onBus, refused, responded, respondOf, responseOf, silent, startOf, stepOf}
-use Rattle.rules.specs.Trial.{Four}
+use Rattle.rules.specs.Trial.{Four, lastFrom}
 use Rattle.rules.specs.Sound.{after, NeverSix, RefusedAfterCode2}
 use Rattle.rules.proofs.Choice.{choice}
 use Rattle.rules.proofs.WellFormed.{fresh-well-formed, steps-well-formed}
@@ -81,15 +81,15 @@ step-small : (s : State) (kind a b c : ℤ) → wellFormed s ≡ true → stepOf
 unfolding stepOf
 step-small s kind a b c h = rw h (checked-small s (checkOf kind a b c) (check-small kind a b c))
 
-after-well : (es : List Four) (s : State) → wellFormed s ≡ true → wellFormed (after s es) ≡ true
-unfolding after
-after-well [] s h = h
-after-well (e ∷ es) s h =
-    after-well es (stepOf s (e .kind) (e .a) (e .b) (e .c) .state) (steps-well-formed s (e .kind) (e .a) (e .b) (e .c) h)
+after-well : (es : List Four) (x : Answer) → wellFormed (x .state) ≡ true → wellFormed (lastFrom x es .state) ≡ true
+unfolding lastFrom
+after-well [] x h = h
+after-well (e ∷ es) x h =
+    after-well es (stepOf (x .state) (e .kind) (e .a) (e .b) (e .c)) (steps-well-formed (x .state) (e .kind) (e .a) (e .b) (e .c) h)
 
 pub never-six : NeverSix
 never-six address h es kind a b c six =
-    let small : stepOf (after (madeOf address .state) es) kind a b c .code < 6 = step-small _ kind a b c (after-well es (madeOf address .state) (fresh-well-formed address h)) in
+    let small : stepOf (after (madeOf address .state) es) kind a b c .code < 6 = step-small _ kind a b c (after-well es (answerOf 0 0 (madeOf address .state)) (fresh-well-formed address h)) in
     omega arith
 
 pub refused-after-code-2 : RefusedAfterCode2

@@ -32,7 +32,12 @@ verdictOf l fault = record { found = fault; flag = l .flag || fault }
 -- one channel compared: both limits, and THERM, where "both sides count 4 codes per degree"
 unfoldable pub marksOf : ℕ → ℕ → Sensor → Marks
 marksOf scale hysteresis c =
-    record { high = verdictOf (c .marks .high) (aboveOf (limitOf scale (c .settings .high) (c .settings .highfine)) (c .value)); low = verdictOf (c .marks .low) (belowOf (limitOf scale (c .settings .low) (c .settings .lowfine)) (c .value)); diode = c .marks .diode; therm = comparatorOf (scale * c .settings .therm) (scale * hysteresis) (c .value) (c .marks .therm) }
+    record {
+      high = verdictOf (c .marks .high) (aboveOf (limitOf scale (c .settings .high) (c .settings .highfine)) (c .value));
+      low = verdictOf (c .marks .low) (belowOf (limitOf scale (c .settings .low) (c .settings .lowfine)) (c .value));
+      diode = c .marks .diode;
+      therm = comparatorOf (scale * c .settings .therm) (scale * hysteresis) (c .value) (c .marks .therm);
+    }
 
 abbrev pub comparedOf : ℕ → ℕ → Sensor → Sensor
 comparedOf scale hysteresis c = withMarks c (marksOf scale hysteresis c)

@@ -25,7 +25,9 @@ convertedOf scale wide hysteresis sample broken c =
 
 abbrev pub bothConverted : State → ℤ → ℤ → Bool → State
 bothConverted s local remote broken =
-    withSensors s (convertedOf (scaleOf Local) (extended (s .config)) (s .hysteresis) local false (s .local)) (convertedOf (scaleOf Remote) (extended (s .config)) (s .hysteresis) remote broken (s .remote))
+    withSensors s
+    (convertedOf (scaleOf Local) (extended (s .config)) (s .hysteresis) local false (s .local))
+    (convertedOf (scaleOf Remote) (extended (s .config)) (s .hysteresis) remote broken (s .remote))
 
 -- "Run count: completed conversions in a row in which any of the four limit faults was found"
 abbrev pub counted : State → State

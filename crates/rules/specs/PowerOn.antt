@@ -32,7 +32,19 @@ sensorOf t = record { settings = t; value = 0; converted = false; marks = noMark
 -- "rate 08; hysteresis 0A; consecutive 01; .. all else 00, pointer 00, .. run count 0", at what was given
 abbrev pub powerOn : Given → State
 powerOn g =
-    record { given = g; pointer = 0; config = 0; rate = 0x08; hysteresis = 0x0a; consecutive = 0x01; busy = false; runs = 0; latch = false; local = sensorOf settingsOn; remote = sensorOf settingsOn }
+    record {
+      given = g;
+      pointer = 0;
+      config = 0;
+      rate = 0x08;
+      hysteresis = 0x0a;
+      consecutive = 0x01;
+      busy = false;
+      runs = 0;
+      latch = false;
+      local = sensorOf settingsOn;
+      remote = sensorOf settingsOn;
+    }
 
 abbrev pub noSettings : Settings
 noSettings =
@@ -41,7 +53,19 @@ noSettings =
 -- "a state of all zeros"
 abbrev pub allZero : State
 allZero =
-    record { given = record { address = 0 }; pointer = 0; config = 0; rate = 0; hysteresis = 0; consecutive = 0; busy = false; runs = 0; latch = false; local = sensorOf noSettings; remote = sensorOf noSettings }
+    record {
+      given = record { address = 0 };
+      pointer = 0;
+      config = 0;
+      rate = 0;
+      hysteresis = 0;
+      consecutive = 0;
+      busy = false;
+      runs = 0;
+      latch = false;
+      local = sensorOf noSettings;
+      remote = sensorOf noSettings;
+    }
 
 -- "address 76 or 77"
 abbrev pub isAddress : ℕ → Bool

@@ -32,19 +32,75 @@ settingOf t Therm = t .therm
 
 abbrev pub withSetting : Settings → Setting → ℕ → Settings
 withSetting t High b =
-    record { high = b; highfine = t .highfine; low = t .low; lowfine = t .lowfine; offset = t .offset; offsetfine = t .offsetfine; therm = t .therm }
+    record {
+      high = b;
+      highfine = t .highfine;
+      low = t .low;
+      lowfine = t .lowfine;
+      offset = t .offset;
+      offsetfine = t .offsetfine;
+      therm = t .therm;
+    }
 withSetting t HighFine b =
-    record { high = t .high; highfine = b; low = t .low; lowfine = t .lowfine; offset = t .offset; offsetfine = t .offsetfine; therm = t .therm }
+    record {
+      high = t .high;
+      highfine = b;
+      low = t .low;
+      lowfine = t .lowfine;
+      offset = t .offset;
+      offsetfine = t .offsetfine;
+      therm = t .therm;
+    }
 withSetting t Low b =
-    record { high = t .high; highfine = t .highfine; low = b; lowfine = t .lowfine; offset = t .offset; offsetfine = t .offsetfine; therm = t .therm }
+    record {
+      high = t .high;
+      highfine = t .highfine;
+      low = b;
+      lowfine = t .lowfine;
+      offset = t .offset;
+      offsetfine = t .offsetfine;
+      therm = t .therm;
+    }
 withSetting t LowFine b =
-    record { high = t .high; highfine = t .highfine; low = t .low; lowfine = b; offset = t .offset; offsetfine = t .offsetfine; therm = t .therm }
+    record {
+      high = t .high;
+      highfine = t .highfine;
+      low = t .low;
+      lowfine = b;
+      offset = t .offset;
+      offsetfine = t .offsetfine;
+      therm = t .therm;
+    }
 withSetting t Offset b =
-    record { high = t .high; highfine = t .highfine; low = t .low; lowfine = t .lowfine; offset = b; offsetfine = t .offsetfine; therm = t .therm }
+    record {
+      high = t .high;
+      highfine = t .highfine;
+      low = t .low;
+      lowfine = t .lowfine;
+      offset = b;
+      offsetfine = t .offsetfine;
+      therm = t .therm;
+    }
 withSetting t OffsetFine b =
-    record { high = t .high; highfine = t .highfine; low = t .low; lowfine = t .lowfine; offset = t .offset; offsetfine = b; therm = t .therm }
+    record {
+      high = t .high;
+      highfine = t .highfine;
+      low = t .low;
+      lowfine = t .lowfine;
+      offset = t .offset;
+      offsetfine = b;
+      therm = t .therm;
+    }
 withSetting t Therm b =
-    record { high = t .high; highfine = t .highfine; low = t .low; lowfine = t .lowfine; offset = t .offset; offsetfine = t .offsetfine; therm = b }
+    record {
+      high = t .high;
+      highfine = t .highfine;
+      low = t .low;
+      lowfine = t .lowfine;
+      offset = t .offset;
+      offsetfine = t .offsetfine;
+      therm = b;
+    }
 
 abbrev pub sensorAt : State → Channel → Sensor
 sensorAt s Local = s .local

@@ -2,19 +2,18 @@
 use Prim.Native.Nat.{ℕ}
 use mathlib.Core.Path.{_≡_}
 use mathlib.Core.Bool.{true}
-use mathlib.Core.List.{List, [], _∷_}
+use mathlib.Core.List.{List}
 use lib.IntN.{ℤ}
 use Rattle.rules.specs.declared.state.State.{State}
 use Rattle.rules.specs.Lines.{alertLow}
 use Rattle.rules.specs.PowerOn.{madeOf}
-use Rattle.rules.specs.Step.{stepOf}
-use Rattle.rules.specs.Trial.{Four}
+use Rattle.rules.specs.Step.{answerOf, stepOf}
+use Rattle.rules.specs.Trial.{Four, lastFrom}
 use Rattle.rules.specs.WellFormed.{wellFormed}
 
 -- the state after events sent one after the other, refused ones among them
-unfoldable pub after : State → List Four → State
-after s [] = s
-after s (e ∷ es) = after (stepOf s (e .kind) (e .a) (e .b) (e .c) .state) es
+abbrev pub after : State → List Four → State
+after s es = lastFrom (answerOf 0 0 s) es .state
 
 -- a fresh state is well formed
 abbrev pub FreshWellFormed : Type 0
@@ -27,7 +26,8 @@ StepsWellFormed = (s : State) (kind a b c : ℤ) → wellFormed s ≡ true → w
 -- so that, from power-on, no event of any sequence is answered with code 6
 abbrev pub NeverSix : Type 0
 NeverSix =
-    (address : ℤ) → madeOf address .code ≡ 0 → (es : List Four) (kind a b c : ℤ) → stepOf (after (madeOf address .state) es) kind a b c .code ≡ 6 → ⊥
+    (address : ℤ) → madeOf address .code ≡ 0 → (es : List Four) (kind a b c : ℤ)
+    → stepOf (after (madeOf address .state) es) kind a b c .code ≡ 6 → ⊥
 
 -- "a state of all zeros, which code 6 refuses"
 abbrev pub RefusedAfterCode2 : Type 0

@@ -13,7 +13,10 @@ use Rattle.rules.specs.Setters.{withMarks, withSensors}
 -- "7 busy, 6 local high, 5 local low, 4 remote high, 3 remote low, 2 open, 1 remote THERM, 0 local THERM"
 unfoldable pub statusOf : State → ℕ
 statusOf s =
-    weight (s .busy) 128 + weight (s .local .marks .high .flag) 64 + weight (s .local .marks .low .flag) 32 + weight (s .remote .marks .high .flag) 16 + weight (s .remote .marks .low .flag) 8 + weight (s .remote .marks .diode .flag) 4 + weight (s .remote .marks .therm) 2 + weight (s .local .marks .therm) 1
+    weight (s .busy) 128 + weight (s .local .marks .high .flag) 64
+    + weight (s .local .marks .low .flag) 32 + weight (s .remote .marks .high .flag) 16
+    + weight (s .remote .marks .low .flag) 8 + weight (s .remote .marks .diode .flag) 4
+    + weight (s .remote .marks .therm) 2 + weight (s .local .marks .therm) 1
 
 -- "then each of 6 to 2 whose latest comparison found no fault (or has none) is cleared"
 abbrev pub shownOf : Latched → Latched
@@ -26,7 +29,8 @@ shownMarks m =
 -- the state after register 02 was read
 unfoldable pub afterStatus : State → State
 afterStatus s =
-    withSensors s (withMarks (s .local) (shownMarks (s .local .marks))) (withMarks (s .remote) (shownMarks (s .remote .marks)))
+    withSensors s (withMarks (s .local) (shownMarks (s .local .marks)))
+    (withMarks (s .remote) (shownMarks (s .remote .marks)))
 
 -- a channel's latched flags: is any of them 1
 abbrev pub flagOf : Sensor → Bool

@@ -18,7 +18,10 @@ use Rattle.rules.specs.Values.{scaleOf, topOf}
 -- each setting holds only bits that its register stores
 abbrev pub settingsKept : Channel → Settings → Bool
 settingsKept ch t =
-    keptIn (Of ch High) (t .high) && keptIn (Of ch HighFine) (t .highfine) && keptIn (Of ch Low) (t .low) && keptIn (Of ch LowFine) (t .lowfine) && keptIn (Of ch Offset) (t .offset) && keptIn (Of ch OffsetFine) (t .offsetfine) && keptIn (Of ch Therm) (t .therm)
+    keptIn (Of ch High) (t .high) && keptIn (Of ch HighFine) (t .highfine)
+    && keptIn (Of ch Low) (t .low) && keptIn (Of ch LowFine) (t .lowfine)
+    && keptIn (Of ch Offset) (t .offset) && keptIn (Of ch OffsetFine) (t .offsetfine)
+    && keptIn (Of ch Therm) (t .therm)
 
 -- the local channel has no diode, so no flag of one
 abbrev pub diodeKept : Channel → Latched → Bool
@@ -28,12 +31,16 @@ diodeKept Remote l = true
 -- "remote value over 1023"; the local value register has 8 bits
 abbrev pub sensorWell : Channel → Sensor → Bool
 sensorWell ch c =
-    leb (c .value) (topOf (scaleOf ch) true) && settingsKept ch (c .settings) && diodeKept ch (c .marks .diode)
+    leb (c .value) (topOf (scaleOf ch) true) && settingsKept ch (c .settings)
+    && diodeKept ch (c .marks .diode)
 
 abbrev pub registersKept : State → Bool
 registersKept s =
-    keptIn Config (s .config) && keptIn Rate (s .rate) && keptIn Hysteresis (s .hysteresis) && keptIn Consecutive (s .consecutive)
+    keptIn Config (s .config) && keptIn Rate (s .rate)
+    && keptIn Hysteresis (s .hysteresis) && keptIn Consecutive (s .consecutive)
 
 unfoldable pub wellFormed : State → Bool
 wellFormed s =
-    isAddress (s .given .address) && leb (s .runs) 4 && registersKept s && sensorWell Local (s .local) && sensorWell Remote (s .remote)
+    isAddress (s .given .address) && leb (s .runs) 4
+    && registersKept s && sensorWell Local (s .local)
+    && sensorWell Remote (s .remote)

@@ -38,7 +38,9 @@ writeCompares (Of ch q) = settingCompares q
 -- "compares each channel converted since power-on, at once"
 abbrev pub bothRecompared : State → State
 bothRecompared s =
-    withSensors s (recomparedOf (scaleOf Local) (s .hysteresis) (s .local)) (recomparedOf (scaleOf Remote) (s .hysteresis) (s .remote))
+    withSensors s
+    (recomparedOf (scaleOf Local) (s .hysteresis) (s .local))
+    (recomparedOf (scaleOf Remote) (s .hysteresis) (s .remote))
 
 -- "by a standby comparison that finds any limit fault (house: whatever the count)"
 abbrev pub latchedByFaults : State → State
