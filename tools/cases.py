@@ -17,7 +17,8 @@ STDOUT = ROOT / "crates" / "cases" / "stdout"
 EVENT, FRESH, SET, CASE = range(4)
 KINDS = {"reset": 0, "send": 1, "write": 2, "read": 3, "receive": 4, "respond": 5, "start": 6, "end": 7}
 FIELDS = {"reset": 0, "send": 2, "write": 3, "read": 2, "receive": 1, "respond": 0, "start": 0, "end": 3, "raw": 4}
-STATE = ["address", "remotevalue", "localvalue", "runs", "config", "remotehighfine", "remotelowfine", "offsetfine"]
+STATE = ["address", "remotevalue", "localvalue", "runs", "config", "remotehighfine", "remotelowfine", "offsetfine",
+         "localhighfine", "locallowfine", "localoffset", "localoffsetfine", "localdiodefound", "localdiodeflag"]
 
 
 def fail(number, text):

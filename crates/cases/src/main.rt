@@ -72,6 +72,7 @@ fn number(line: &[u8], k: usize) -> i32
 fn spoilt(s: State, field: u32, n: u32) -> State {
     let b = (n % 256) as u8;
     let w = (n % 65536) as u16;
+    let set = b == 1;
     let mut t = s;
     match field {
         0 => t.given.address = b,
@@ -81,7 +82,13 @@ fn spoilt(s: State, field: u32, n: u32) -> State {
         4 => t.config = b,
         5 => t.remote.settings.highfine = b,
         6 => t.remote.settings.lowfine = b,
-        _ => t.remote.settings.offsetfine = b,
+        7 => t.remote.settings.offsetfine = b,
+        8 => t.local.settings.highfine = b,
+        9 => t.local.settings.lowfine = b,
+        10 => t.local.settings.offset = b,
+        11 => t.local.settings.offsetfine = b,
+        12 => t.local.marks.diode.found = set,
+        _ => t.local.marks.diode.flag = set,
     }
     t
 }

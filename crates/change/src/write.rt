@@ -12,6 +12,7 @@ use rules::state::State;
 use sensor::compare::fault;
 use sensor::compare::recompared;
 ghost use mathlib.Core.Path.{_≡_};
+ghost use mathlib.Core.Bool.{_||_};
 ghost use Rattle.rules.specs.Setters.{withPointer};
 ghost use Rattle.rules.specs.Write.{settingCompares, writeCompares, bothRecompared, latchedByFaults, standbyCompared, comparedIf, stoppedIf, oneShot, writtenTo};
 ghost use Rattle.rules.specs.Write as rule;
@@ -54,7 +55,13 @@ fn both_recompared(s: State) -> State
     }
 }
 
-// The latch does not wait for the run count, and the run count does not move.
+// The latch does not wait for the run count.
+fn latch_after(s: State, found: bool) -> bool
+    ensures { λ r. ⌜ r ≡ (s .latch || found) ⌝ }
+{
+    s.latch | found
+}
+
 fn latched_by_faults(s: State) -> State
     ensures { λ r. ⌜ r ≡ latchedByFaults s ⌝ }
 {
@@ -62,7 +69,7 @@ fn latched_by_faults(s: State) -> State
     let r = s.remote;
     let found = any(fault(l), fault(r));
     State {
-        latch: s.latch | found,
+        latch: latch_after(s, found),
         ..s
     }
 }
