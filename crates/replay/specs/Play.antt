@@ -69,7 +69,7 @@ ended p code = record { code = code; records = p .records; used = p .used; text 
 abbrev pub went : Run → State → ℕ → List ℕ → Run
 went p s n text = record { code = 0; records = p .records + 1; used = p .used + n; text = p .text ++ text; state = s }
 
-abbrev pub onTurn : Turn → (State → ℕ → ℕ → Run) → (ℕ → Run) → Run
+abbrev pub onTurn : {A : Type 0} → Turn → (State → ℕ → ℕ → A) → (ℕ → A) → A
 onTurn (Went s n k) on off = on s n k
 onTurn (Stopped code) on off = off code
 

@@ -77,7 +77,7 @@ checked-small : (s : State) (k : Checked) → Small k → checkedOf s k .code < 
 checked-small s (Good e) h = apply-small s e
 checked-small s (Bad n) h = h
 
-step-small : (s : State) (kind a b c : ℤ) → wellFormed s ≡ true → stepOf s kind a b c .code < 6
+pub step-small : (s : State) (kind a b c : ℤ) → wellFormed s ≡ true → stepOf s kind a b c .code < 6
 unfolding stepOf
 step-small s kind a b c h = rw h (checked-small s (checkOf kind a b c) (check-small kind a b c))
 
