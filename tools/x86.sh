@@ -1,0 +1,28 @@
+# For bash scripts to source from the repository's root: how a C program that links the library is built and run. The library is x86-64
+# code; on another machine Debian's cross compiler and emulator stand in, and are installed where they are missing.
+#   "${x86_cc[@]}" FILES "$x86_library" -o PROGRAM    builds
+#   "${x86_run[@]}" PROGRAM                           runs; empty on x86-64
+
+# Installs Debian's packages where a command is missing: command, then packages.
+need() {
+    local command=$1
+    shift
+    command -v "$command" >/dev/null || { apt-get update -qq && apt-get install -y -qq "$@" >/dev/null; }
+}
+
+need gcc gcc libc6-dev
+if [[ $(uname -m) == x86_64 ]]; then
+    x86_cc=(gcc)
+    x86_run=()
+else
+    need x86_64-linux-gnu-gcc gcc-x86-64-linux-gnu libc6-dev-amd64-cross
+    need qemu-x86_64 qemu-user
+    x86_cc=(x86_64-linux-gnu-gcc -static)    # the emulator has no x86-64 libraries to load
+    x86_run=(qemu-x86_64)
+fi
+
+x86_library=target/staticlib/libreplay.a
+if [[ ! -e $x86_library || -n $(find crates crates.txt -newer "$x86_library" -print -quit) ]]; then
+    mkdir -p target
+    rt staticlib replay >target/staticlib.out 2>&1 || { cat target/staticlib.out >&2; exit 1; }
+fi
