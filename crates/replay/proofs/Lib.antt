@@ -2,5 +2,6 @@
 pub mod Examples
 pub mod Plays
 pub mod Replays
+pub mod Room
 pub mod Turns
 pub mod Unique
