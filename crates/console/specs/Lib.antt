@@ -1,0 +1,2 @@
+-- What the small program writes.
+pub mod Console
