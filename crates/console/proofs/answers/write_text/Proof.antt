@@ -5,7 +5,7 @@ use lib.ListN.{length}
 use borrow.Author.Needs.{needs}
 use Rattle.text.proofs.Put.{front-held}
 use Rattle.replay.specs.Play.{Ran}
-use Rattle.console.specs.Console.{start}
+use Rattle.console.specs.Console.{most, start}
 use Rattle.console.proofs.Texts.{answered-to, front, refused, text-fits}
 use Rattle.console.proofs.answers.write_text.Statement.{statement}
 use Rattle.console.proofs.answers.write_text.Tie as tie
@@ -18,14 +18,17 @@ returns c =
 ran : (c : tie.After-play) → Ran start (c .before .before .before .before .before .before .before .args .trace .now) (c .before .before .before .before .before .before .before .args .out .now) (c .play .last .1 .1 .0) (c .play .result)
 ran c = rw (c .before .before .before .fresh .ensures) at (c .play .ensures)
 
+short : (c : tie.After-play) → length (c .before .before .before .before .before .before .before .args .trace .now) ≤ most
+short c = omega (arith, c .before .before .before .before .if1 .left)
+
 -- the end's place lies inside
 held : (c : tie.After-play) → c .play .result .written ≤ length (c .play .last .1 .1 .0)
-held c = front-held (front (c .before .before .before .before .before .before .before .pre) (c .before .before .before .before .if1 .left) (ran c))
+held c = front-held (front (c .before .before .before .before .before .before .before .pre) (short c) (ran c))
 
 returns-2 : tie.Need-returns-2
 returns-2 c =
     let at = c .before .before .before .before .before .before .before in
-    rw (c .count2 .ensures) (answered-to (at .before .before .before .before .before .before .before .pre) (at .before .before .before .before .if1 .left) (ran at) (c .before .before .before .write-end2 .ensures))
+    rw (c .count2 .ensures) (answered-to (at .before .before .before .before .before .before .before .pre) (short at) (ran at) (c .before .before .before .write-end2 .ensures))
 
 add-result : tie.Need-add-result
 add-result c = omega (arith, returns-2 c .count, text-fits (c .before .before .before .before .before .before .before .before .before .before .before .before .before .before .args .trace .now))
