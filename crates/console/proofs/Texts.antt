@@ -15,10 +15,11 @@ use Rattle.text.proofs.Put.{front-room, front-then, put-fits}
 use Rattle.text.proofs.Size.{decimal-one, line-length}
 use Rattle.replay.specs.declared.play.Played.{Played}
 use Rattle.replay.specs.Play.{Ran, runOf}
+use Rattle.replay.specs.Replay.{replayFrom}
 use Rattle.replay.specs.Room.{roomOf}
 use Rattle.replay.proofs.Plays.{back, from}
 use Rattle.replay.proofs.Room.{answers-fit, no-eight, run-code, same-run}
-use Rattle.console.specs.Console.{NeverEight, TextFits, Written, answered, consoleText, countOf, endLine, longest, most, runOn, start}
+use Rattle.console.specs.Console.{DoesTheSame, NeverEight, TextFits, Written, answered, consoleText, countOf, endLine, longest, most, runOn, start}
 
 end-length : (code : ℕ) → code < 10 → length (endLine code) ≡ 6
 end-length code h = omega (arith, line-length endName code, ap length (decimal-one code h))
@@ -62,6 +63,10 @@ module _ {trace before x : List ℕ} {p : Played} (room : longest ≤ length bef
       let all = front-then front (f .1) in
       let e : consoleText trace ≡ runOf start trace (length before) .text ++ endLine (p .code) = whole trace short ∙ rw (same, ran .code) in
       record { count = rw (e, f .0) (all .count); bytes = rw e (all .bytes) }
+
+pub does-the-same : DoesTheSame
+unfolding replayFrom runOn
+does-the-same trace output report taken room = rw (taken, same-run start trace (length output) room)
 
 pub never-eight : NeverEight
 unfolding runOn

@@ -2,7 +2,7 @@
 -- trace. Assumes nothing.
 use Prim.Native.Nat.{ℕ, _+_, _≤_}
 use mathlib.Core.Path.{_≡_}
-use mathlib.Core.Bool.{cond}
+use mathlib.Core.Bool.{cond, false}
 use mathlib.Core.List.{List, _++_}
 use lib.Dec.{ltb}
 use lib.IntN.ℤ.{pos}
@@ -14,6 +14,7 @@ use Rattle.text.specs.Answer.{lineText}
 use Rattle.text.specs.declared.answer.Wrote.{Wrote}
 use Rattle.text.specs.declared.answer.Wrote.the-variants.{Bytes, NoRoom}
 use Rattle.replay.specs.Play.{Run, put, runOf}
+use Rattle.replay.specs.Replay.{played, refusedAtOnce, replayOf}
 use Rattle.replay.specs.Room.{roomOf}
 
 -- "at most 24 KiB of trace"
@@ -49,6 +50,12 @@ pub record Written (trace before after : List ℕ) (r : ℕ) : Type 0 where
 abbrev pub countOf : Wrote → ℕ
 countOf (Bytes n) = n
 countOf NoRoom = 0
+
+-- "does the same": what replay answers and writes for address 76, wherever it takes the buffers and has the room
+abbrev pub DoesTheSame : Type 0
+DoesTheSame =
+    (trace output report : List ℕ) → refusedAtOnce (madeOf (pos 76)) trace output report ≡ false → roomOf (length trace) ≤ length output
+    → replayOf (pos 76) trace output report ≡ played (runOn trace) output
 
 -- "code 8 is never given"
 abbrev pub NeverEight : Type 0
