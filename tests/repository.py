@@ -12,7 +12,7 @@ ROOT = Path(__file__).resolve().parent.parent
 # A public function: its attributes, `pub` or `pub(..)`, words such as `extern "C"`, its name, and all up to its body.
 PUBLIC = re.compile(r'^ *(?:#\[[^\n]*?\] *)*pub(?:\([^)\n]*\))? (?:[\w"]+ )*?fn (\w+)(.*?)(?:\n\s*\{$| \{$| \{\}$)', re.M | re.S)
 # Records of equations that give the result and every byte of each lent buffer. Each has a law that no second answer satisfies it.
-RECORDS = ["Put", "Turned", "Ran", "Replayed"]
+RECORDS = ["Put", "Turned", "Ran", "Replayed", "Written"]
 # What makes a statement hold of more than one answer.
 LOOSENS = re.compile("[→⊎∨]")
 passed, failures = 0, []

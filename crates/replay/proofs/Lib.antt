@@ -3,5 +3,6 @@ pub mod Consumed
 pub mod Examples
 pub mod Plays
 pub mod Replays
+pub mod Room
 pub mod Turns
 pub mod Unique

@@ -1,4 +1,5 @@
--- From power-on no event is answered with code 6: the state stays well formed, and no other answer has that code. Assumes nothing.
+-- From power-on no event is answered with code 6: the state stays well formed, and no other answer has that code. From any state no code is
+-- above 6. Assumes nothing.
 use Prim.Native.Nat.{ℕ, _<_}
 use native.Mathlib.Omega.{arith}
 use mathlib.Core.Path.{_≡_, refl}
@@ -80,6 +81,14 @@ checked-small s (Bad n) h = h
 pub step-small : (s : State) (kind a b c : ℤ) → wellFormed s ≡ true → stepOf s kind a b c .code < 6
 unfolding stepOf
 step-small s kind a b c h = rw h (checked-small s (checkOf kind a b c) (check-small kind a b c))
+
+-- of any state, so also of one that is not well formed
+pub step-code : (s : State) (kind a b c : ℤ) → stepOf s kind a b c .code < 7
+unfolding stepOf
+step-code s kind a b c =
+    choice (λ (x : Answer). x .code < 7) (wellFormed s) (checkedOf s (checkOf kind a b c)) (refused 6 s)
+    (omega (arith, checked-small s (checkOf kind a b c) (check-small kind a b c)))
+    (omega arith)
 
 after-well : (es : List Four) (x : Answer) → wellFormed (x .state) ≡ true → wellFormed (lastFrom x es .state) ≡ true
 unfolding lastFrom

@@ -1,0 +1,3 @@
+-- What the small program writes.
+pub mod Console
+pub mod Examples
