@@ -1,4 +1,5 @@
 -- What is shown of the rules, and one law on numbers for the crates above.
+pub mod Alarm
 pub mod Choice
 pub mod Match
 pub mod NeverSix

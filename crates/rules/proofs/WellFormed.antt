@@ -50,11 +50,11 @@ use Rattle.rules.specs.Sound.{FreshWellFormed, StepsWellFormed}
 use Rattle.rules.proofs.Choice.{choice}
 
 -- a conjunction taken apart and put together
-left : (a b : Bool) → a && b ≡ true → a ≡ true
+pub left : (a b : Bool) → a && b ≡ true → a ≡ true
 left true b h = refl
 left false b h = h
 
-right : (a b : Bool) → a && b ≡ true → b ≡ true
+pub right : (a b : Bool) → a && b ≡ true → b ≡ true
 right true b h = h
 right false b h = absurd (let z : _≡_ {A = ℕ} 0 1 = cc in omega arith)
 

@@ -21,3 +21,4 @@ pub mod Trial
 pub mod BenchCases
 pub mod RuleCases
 pub mod Sound
+pub mod Alarm

@@ -1,0 +1,378 @@
+-- No alarm is lost and none invented, in any sequence of events from the latest power-on. Read from top to bottom: what the history is given;
+-- what each event made happen; the flags, spells and the latch by that history; the claims. The proofs are in proofs/Alarm.antt. Assumes nothing.
+use Prim.Native.Nat.{ℕ, _+_}
+use mathlib.Core.Path.{_≡_}
+use mathlib.Core.Bool.{Bool, cond, not, _||_, _&&_, true, false}
+use mathlib.Core.List.{List, [], _∷_, _++_, map}
+use lib.Dec.{eqb, leb}
+use lib.IntN.{ℤ}
+use lib.IntN.ℤ.{pos}
+use Rattle.rules.specs.declared.register.Channel.{Channel}
+use Rattle.rules.specs.declared.register.Channel.the-variants.{Local, Remote}
+use Rattle.rules.specs.declared.state.Settings.{Settings}
+use Rattle.rules.specs.declared.state.State.{State}
+use Rattle.rules.specs.declared.event.Event.{Event}
+use Rattle.rules.specs.declared.event.Event.the-variants.{Reset, Send, Write, Read, Receive, Respond, Start, End}
+use Rattle.rules.specs.declared.event.Checked.{Checked}
+use Rattle.rules.specs.declared.event.Checked.the-variants.{Good, Bad}
+use Rattle.rules.specs.declared.answer.Answer.{Answer}
+use Rattle.rules.specs.Bits.{bit, weight}
+use Rattle.rules.specs.Channels.{any}
+use Rattle.rules.specs.Comparisons.{aboveOf, belowOf, limitOf}
+use Rattle.rules.specs.Configuration.{choosesTherm2, masked, standby}
+use Rattle.rules.specs.Event.{checkOf}
+use Rattle.rules.specs.PowerOn.{madeOf}
+use Rattle.rules.specs.Registers.{sensorAt}
+use Rattle.rules.specs.Sound.{after}
+use Rattle.rules.specs.Step.{stepOf}
+use Rattle.rules.specs.Trial.{Four}
+use Rattle.rules.specs.Values.{scaleOf}
+
+-- ---- What the history is given ----
+
+-- "never from stored flags": of a state, only the registers as written and the measured values. No flag, no verdict, no run count, no converted
+-- mark, no latch, and not whether a conversion runs
+pub record View : Type 0 where
+  pub address : ℕ
+  pub pointer : ℕ
+  pub config : ℕ
+  pub consecutive : ℕ
+  pub settings : Channel → Settings
+  pub value : Channel → ℕ
+
+abbrev pub viewOf : State → View
+viewOf s =
+    record {
+      address = s .given .address;
+      pointer = s .pointer;
+      config = s .config;
+      consecutive = s .consecutive;
+      settings = λ ch. sensorAt s ch .settings;
+      value = λ ch. sensorAt s ch .value;
+    }
+
+-- the two limits of a channel, and what a comparison of its value with one finds
+pub data Side : Type 0 where
+  Above : Side
+  Below : Side
+
+abbrev pub beyond : View → Channel → Side → Bool
+beyond v ch Above = aboveOf (limitOf (scaleOf ch) (v .settings ch .high) (v .settings ch .highfine)) (v .value ch)
+beyond v ch Below = belowOf (limitOf (scaleOf ch) (v .settings ch .low) (v .settings ch .lowfine)) (v .value ch)
+
+-- what one event is answered
+abbrev pub answerFor : State → Four → Answer
+answerFor s e = stepOf s (e .kind) (e .a) (e .b) (e .c)
+
+-- ---- What each event made happen ----
+
+-- what one event did, of what decides an alarm
+pub data Deed : Type 0 where
+  Idle : Deed  -- none of these
+  Began : Deed  -- a conversion began
+  Broke : Deed  -- a conversion that ran, if any, ended with no result
+  Measured : Bool → Deed  -- a conversion ended with its values; was the diode open
+  Compared : Deed  -- in standby, every channel was compared at a limit write
+  StatusRead : Deed  -- register 02 was read
+  Asked : Deed  -- an alert response was asked for
+
+-- beside it the registers and values once the event was over, and the reply that the step gave
+pub record Happened : Type 0 where
+  pub deed : Deed
+  pub seen : View
+  pub reply : ℕ
+
+-- since the latest power-on, the latest first
+abbrev pub History : Type 0
+History = List Happened
+
+-- is a conversion running
+abbrev pub runsAfter : Deed → Bool → Bool
+runsAfter Idle r = r
+runsAfter Began r = true
+runsAfter Broke r = false
+runsAfter (Measured broken) r = false
+runsAfter Compared r = r
+runsAfter StatusRead r = r
+runsAfter Asked r = r
+
+unfoldable pub runs : History → Bool
+runs [] = false
+runs (h ∷ earlier) = runsAfter (h .deed) (runs earlier)
+
+-- "converted since power-on": a conversion measures every channel
+abbrev pub measures : Deed → Bool
+measures Idle = false
+measures Began = false
+measures Broke = false
+measures (Measured broken) = true
+measures Compared = false
+measures StatusRead = false
+measures Asked = false
+
+unfoldable pub converted : History → Bool
+converted [] = false
+converted (h ∷ earlier) = measures (h .deed) || converted earlier
+
+-- "a write to 0B to 0E, 13, 14, 19, 20 or 21"
+abbrev pub comparesAt : ℕ → Bool
+comparesAt command =
+    any (map (λ (n : ℕ). eqb command n) (0x0b ∷ 0x0c ∷ 0x0d ∷ 0x0e ∷ 0x13 ∷ 0x14 ∷ 0x19 ∷ 0x20 ∷ 0x21 ∷ []))
+
+abbrev pub deedIf : Bool → Deed → Deed
+deedIf happens d = cond happens d Idle
+
+-- "A one-shot write in standby with no conversion running starts one"; "When bit 6 goes from 0 to 1 a running conversion ends with no result"; "In
+-- standby, a write to .. compares each channel converted since power-on"
+abbrev pub writeDeed : History → View → View → ℕ → Deed
+writeDeed earlier before v command =
+    cond (eqb command 0x0f) (deedIf (standby (before .config) && not (runs earlier)) Began)
+    (cond (not (standby (before .config)) && standby (v .config)) Broke
+    (deedIf (comparesAt command && standby (before .config) && converted earlier) Compared))
+
+-- an event that is for the chip, by the registers before and after it. "Kinds 3 and 4 reply the register at the pointer": a status read is a
+-- read of register 02
+abbrev pub deedOf : History → View → View → Event → Deed
+deedOf earlier before v Reset = Idle
+deedOf earlier before v (Send a n) = Idle
+deedOf earlier before v (Write a n b) = cond (eqb a (before .address)) (writeDeed earlier before v n) Idle
+deedOf earlier before v (Read a n) = deedIf (eqb a (before .address) && eqb n 0x02) StatusRead
+deedOf earlier before v (Receive a) = deedIf (eqb a (before .address) && eqb (before .pointer) 0x02) StatusRead
+deedOf earlier before v Respond = Asked
+deedOf earlier before v Start = deedIf (not (standby (before .config)) && not (runs earlier)) Began
+deedOf earlier before v (End l r broken) = deedIf (runs earlier) (Measured broken)
+
+-- a power-on begins the history anew
+abbrev pub isReset : Checked → Bool
+isReset (Good Reset) = true
+isReset (Good (Send a n)) = false
+isReset (Good (Write a n b)) = false
+isReset (Good (Read a n)) = false
+isReset (Good (Receive a)) = false
+isReset (Good Respond) = false
+isReset (Good Start) = false
+isReset (Good (End l r broken)) = false
+isReset (Bad code) = false
+
+-- a refused event does nothing
+abbrev pub checkedDeed : History → View → View → Checked → Deed
+checkedDeed earlier before v (Good e) = deedOf earlier before v e
+checkedDeed earlier before v (Bad code) = Idle
+
+-- the history with one event more, of which it is told the registers and values before and after it, and the reply
+abbrev pub noted : History → View → View → ℕ → Checked → History
+noted earlier before v reply k =
+    cond (isReset k) [] (record { deed = checkedDeed earlier before v k; seen = v; reply = reply } ∷ earlier)
+
+abbrev pub told : History → State → Four → History
+told earlier s e =
+    noted earlier (viewOf s) (viewOf (answerFor s e .state)) (answerFor s e .reply) (checkOf (e .kind) (e .a) (e .b) (e .c))
+
+unfoldable pub historyFrom : History → State → List Four → History
+historyFrom earlier s [] = earlier
+historyFrom earlier s (e ∷ es) = historyFrom (told earlier s e) (answerFor s e .state) es
+
+-- the events sent to a chip that was just powered on
+unfoldable pub historyOf : ℤ → List Four → History
+historyOf address es = historyFrom [] (madeOf address .state) es
+
+-- ---- Findings, for each flag ----
+
+-- "each of the five latched flags": the two limits of each channel, and the remote diode
+pub data Flag : Type 0 where
+  Limit : Channel → Side → Flag
+  Open : Flag
+
+abbrev pub limits : List Flag
+limits = Limit Local Above ∷ Limit Local Below ∷ Limit Remote Above ∷ Limit Remote Below ∷ []
+
+abbrev pub flags : List Flag
+flags = limits ++ (Open ∷ [])
+
+-- what an event's comparison (for the open flag, diode check) found
+pub data Finding : Type 0 where
+  MadeNone : Finding
+  FoundNothing : Finding
+  FoundFault : Finding
+
+abbrev pub outcome : Bool → Finding
+outcome true = FoundFault
+outcome false = FoundNothing
+
+abbrev pub isFault : Finding → Bool
+isFault MadeNone = false
+isFault FoundNothing = false
+isFault FoundFault = true
+
+-- "At kind 7, after both values are stored, both channels are compared and the diode checked"; in standby a write "compares each channel ..; it
+-- does not check the diode"; "No other moment compares"
+abbrev pub limitFinding : Deed → Bool → Finding
+limitFinding Idle fault = MadeNone
+limitFinding Began fault = MadeNone
+limitFinding Broke fault = MadeNone
+limitFinding (Measured broken) fault = outcome fault
+limitFinding Compared fault = outcome fault
+limitFinding StatusRead fault = MadeNone
+limitFinding Asked fault = MadeNone
+
+abbrev pub diodeFinding : Deed → Finding
+diodeFinding Idle = MadeNone
+diodeFinding Began = MadeNone
+diodeFinding Broke = MadeNone
+diodeFinding (Measured broken) = outcome broken
+diodeFinding Compared = MadeNone
+diodeFinding StatusRead = MadeNone
+diodeFinding Asked = MadeNone
+
+abbrev pub findingOf : Flag → Happened → Finding
+findingOf (Limit ch side) h = limitFinding (h .deed) (beyond (h .seen) ch side)
+findingOf Open h = diodeFinding (h .deed)
+
+abbrev pub finds : Flag → Happened → Bool
+finds f h = isFault (findingOf f h)
+
+-- ---- Flags and spells, by the history ----
+
+abbrev pub orElse : Finding → Finding → Finding
+orElse MadeNone earlier = earlier
+orElse FoundNothing earlier = FoundNothing
+orElse FoundFault earlier = FoundFault
+
+-- "its latest comparison (for the open flag, diode check)"
+unfoldable pub latest : Flag → History → Finding
+latest f [] = MadeNone
+latest f (h ∷ earlier) = orElse (findingOf f h) (latest f earlier)
+
+-- "a clearing read is a status read at which its latest comparison found no fault, or none was made"
+abbrev pub isStatusRead : Deed → Bool
+isStatusRead Idle = false
+isStatusRead Began = false
+isStatusRead Broke = false
+isStatusRead (Measured broken) = false
+isStatusRead Compared = false
+isStatusRead StatusRead = true
+isStatusRead Asked = false
+
+abbrev pub clears : Flag → Happened → History → Bool
+clears f h earlier = isStatusRead (h .deed) && not (isFault (latest f earlier))
+
+-- "The flag stands exactly if a comparison since the last clearing read found the fault": looking back from now
+unfoldable pub stands : Flag → History → Bool
+stands f [] = false
+stands f (h ∷ earlier) = cond (clears f h earlier) false (finds f h || stands f earlier)
+
+-- "The first such comparison opens a spell"
+unfoldable pub opened : Flag → History → ℕ
+opened f [] = 0
+opened f (h ∷ earlier) = weight (finds f h && not (stands f earlier)) 1 + opened f earlier
+
+-- 6 local high, 5 local low, 4 remote high, 3 remote low, 2 open
+abbrev pub placeOf : Flag → ℕ
+placeOf (Limit Local Above) = 6
+placeOf (Limit Local Below) = 5
+placeOf (Limit Remote Above) = 4
+placeOf (Limit Remote Below) = 3
+placeOf Open = 2
+
+-- "the clearing reads that showed 1"
+unfoldable pub closed : Flag → History → ℕ
+closed f [] = 0
+closed f (h ∷ earlier) = weight (clears f h earlier && bit (placeOf f) (h .reply)) 1 + closed f earlier
+
+-- ---- The latch, by the history ----
+
+abbrev pub findsLimit : Happened → Bool
+findsLimit h = any (map (λ (f : Flag). finds f h) limits)
+
+-- "completed conversions in a row in which any of the four limit faults was found"
+unfoldable pub inARow : History → ℕ
+inARow [] = 0
+inARow (h ∷ earlier) = cond (measures (h .deed)) (cond (findsLimit h) (inARow earlier + 1) 0) (inARow earlier)
+
+-- "1 plus the ones that stand together from bit 1 upwards within bits 3 to 1 of register 22"
+abbrev pub needs : ℕ → ℕ
+needs b = cond (bit 1 b) (cond (bit 2 b) (cond (bit 3 b) 4 3) 2) 1
+
+-- "by a kind 7 with the diode open, by a kind 7 after which the run count is at least the needed number, and by a standby comparison that finds
+-- any limit fault"
+abbrev pub setBy : Deed → ℕ → Bool → ℕ → Bool
+setBy Idle needed found row = false
+setBy Began needed found row = false
+setBy Broke needed found row = false
+setBy (Measured broken) needed found row = broken || leb needed row
+setBy Compared needed found row = found
+setBy StatusRead needed found row = false
+setBy Asked needed found row = false
+
+abbrev pub sets : Happened → History → Bool
+sets h earlier = setBy (h .deed) (needs (h .seen .consecutive)) (findsLimit h) (inARow (h ∷ earlier))
+
+abbrev pub isAsked : Deed → Bool
+isAsked Idle = false
+isAsked Began = false
+isAsked Broke = false
+isAsked (Measured broken) = false
+isAsked Compared = false
+isAsked StatusRead = false
+isAsked Asked = true
+
+-- ALERT is low where the latch stands "and configuration bits 7 and 5 are 0", and an alert response is answered while it is low
+abbrev pub isLow : Bool → View → Bool
+isLow latch v = latch && not (masked (v .config)) && not (choosesTherm2 (v .config))
+
+-- "all five flags 0"
+abbrev pub allClear : History → Bool
+allClear earlier = not (any (map (λ (f : Flag). stands f earlier) flags))
+
+-- "The ALERT latch stands exactly if something that sets it came after the last alert response answered with all five flags 0": looking
+-- back from now
+unfoldable pub latched : History → Bool
+latched [] = false
+latched (h ∷ earlier) =
+    cond (isAsked (h .deed) && isLow (latched earlier) (h .seen) && allClear earlier) false (sets h earlier || latched earlier)
+
+-- ---- The claims ----
+
+-- the chip's flag, and its state and history after events sent since it was powered on
+abbrev pub flagAt : State → Flag → Bool
+flagAt s (Limit ch Above) = sensorAt s ch .marks .high .flag
+flagAt s (Limit ch Below) = sensorAt s ch .marks .low .flag
+flagAt s Open = s .remote .marks .diode .flag
+
+abbrev pub stateOf : ℤ → List Four → State
+stateOf address es = after (madeOf address .state) es
+
+-- "The flag stands exactly if a comparison since the last clearing read found the fault"
+abbrev pub FlagsStand : Type 0
+FlagsStand =
+    (address : ℤ) → madeOf address .code ≡ 0 → (es : List Four) (f : Flag) → flagAt (stateOf address es) f ≡ stands f (historyOf address es)
+
+-- "spells opened since power-on equal the clearing reads that showed 1, plus one if the flag stands"
+abbrev pub SpellsCount : Type 0
+SpellsCount =
+    (address : ℤ) → madeOf address .code ≡ 0 → (es : List Four) (f : Flag)
+    → opened f (historyOf address es) ≡ closed f (historyOf address es) + weight (stands f (historyOf address es)) 1
+
+-- "The ALERT latch stands exactly if something that sets it came after the last alert response answered with all five flags 0"
+abbrev pub LatchStands : Type 0
+LatchStands =
+    (address : ℤ) → madeOf address .code ≡ 0 → (es : List Four) → stateOf address es .latch ≡ latched (historyOf address es)
+
+-- an alert response is answered, code 0, exactly where the history's own latch has the line low; otherwise its code is 3
+abbrev pub respond : Four
+respond = record { kind = pos 5; a = pos 0; b = pos 0; c = pos 0 }
+
+abbrev pub ResponsesAnswered : Type 0
+ResponsesAnswered =
+    (address : ℤ) → madeOf address .code ≡ 0 → (es : List Four)
+    → answerFor (stateOf address es) respond .code ≡ cond (isLow (latched (historyOf address es)) (viewOf (stateOf address es))) 0 3
+
+-- a status read shows each flag as the history has it: no fault that was found is lost, and none is invented
+abbrev pub isStatusEvent : State → Four → Bool
+isStatusEvent s e =
+    isStatusRead (checkedDeed [] (viewOf s) (viewOf s) (checkOf (e .kind) (e .a) (e .b) (e .c)))
+
+abbrev pub ReadsShow : Type 0
+ReadsShow =
+    (address : ℤ) → madeOf address .code ≡ 0 → (es : List Four) (e : Four) → isStatusEvent (stateOf address es) e ≡ true → (f : Flag)
+    → bit (placeOf f) (answerFor (stateOf address es) e .reply) ≡ stands f (historyOf address es)
