@@ -52,16 +52,16 @@ use Rattle.rules.specs.Alarm.Flag.{Limit, Open}
 use Rattle.rules.specs.Alarm.Finding.{MadeNone, FoundNothing, FoundFault}
 use Rattle.rules.specs.Alarm.Deed.{Idle, Began, Broke, Measured, Compared, StatusRead, Asked}
 
-no : {A : Type 0} → _≡_ {A = Bool} false true → A
+pub no : {A : Type 0} → _≡_ {A = Bool} false true → A
 no e = absurd (let z : _≡_ {A = ℕ} 0 1 = cc in omega arith)
 
 -- ---- One latched flag ----
 
 -- a flag with its verdict, as the history has them; and its spells
-record Holds (f : Flag) (l : Latched) (h : History) : Type 0 where
-  flag : l .flag ≡ stands f h
-  found : l .found ≡ isFault (latest f h)
-  spells : opened f h ≡ closed f h + weight (stands f h) 1
+pub record Holds (f : Flag) (l : Latched) (h : History) : Type 0 where
+  pub flag : l .flag ≡ stands f h
+  pub found : l .found ≡ isFault (latest f h)
+  pub spells : opened f h ≡ closed f h + weight (stands f h) 1
 
 module _ {f : Flag} {l : Latched} {h : History} (g : Holds f l h) (x : Happened) where
   -- an event that neither compares nor reads the status
@@ -119,32 +119,32 @@ module _ {f : Flag} {l : Latched} {h : History} (g : Holds f l h) (x : Happened)
 
 -- ---- The whole state ----
 
-abbrev held : ℕ → ℕ
+abbrev pub held : ℕ → ℕ
 held n = cond (ltb n 4) n 4
 
 -- all but whether a conversion runs, over the parts of a state that alarms are made of: which channels are converted, the run count, the latch, the
 -- marks
-record Rest (local remote : Bool) (count : ℕ) (latch : Bool) (l r : Marks) (h : History) : Type 0 where
-  local-conv : local ≡ ever h
-  remote-conv : remote ≡ ever h
-  counted : count ≡ held (inARow h)
-  latching : latch ≡ latched h
-  local-high : Holds (Limit Local Above) (l .high) h
-  local-low : Holds (Limit Local Below) (l .low) h
-  remote-high : Holds (Limit Remote Above) (r .high) h
-  remote-low : Holds (Limit Remote Below) (r .low) h
-  broken : Holds Open (r .diode) h
-  plain : l .diode .flag ≡ false
+pub record Rest (local remote : Bool) (count : ℕ) (latch : Bool) (l r : Marks) (h : History) : Type 0 where
+  pub local-conv : local ≡ ever h
+  pub remote-conv : remote ≡ ever h
+  pub counted : count ≡ held (inARow h)
+  pub latching : latch ≡ latched h
+  pub local-high : Holds (Limit Local Above) (l .high) h
+  pub local-low : Holds (Limit Local Below) (l .low) h
+  pub remote-high : Holds (Limit Remote Above) (r .high) h
+  pub remote-low : Holds (Limit Remote Below) (r .low) h
+  pub broken : Holds Open (r .diode) h
+  pub plain : l .diode .flag ≡ false
 
-abbrev RestOf : State → History → Type 0
+abbrev pub RestOf : State → History → Type 0
 RestOf s h =
     Rest (s .local .converted) (s .remote .converted) (s .runs) (s .latch) (s .local .marks) (s .remote .marks) h
 
-record Agrees (s : State) (h : History) : Type 0 where
-  busy : s .busy ≡ runs h
-  rest : RestOf s h
+pub record Agrees (s : State) (h : History) : Type 0 where
+  pub busy : s .busy ≡ runs h
+  pub rest : RestOf s h
 
-abbrev event : Deed → View → ℕ → Happened
+abbrev pub event : Deed → View → ℕ → Happened
 event d v reply = record { deed = d; seen = v; reply = reply }
 
 -- events that compare nothing, read no status and ask for no alert response
@@ -225,7 +225,7 @@ comparesTo (Into r) = writeCompares r
 comparesTo OneShot = false
 comparesTo Nowhere = false
 
-abbrev isStatus : Source → Bool
+abbrev pub isStatus : Source → Bool
 isStatus (From r) = false
 isStatus (Value ch) = false
 isStatus (ValueFine ch) = false
@@ -247,10 +247,10 @@ names n =
       compare = simp (ne-eqb n 0x09 a, ne-eqb n 0x0a b, ne-eqb n 0x0b c, ne-eqb n 0x0c d, ne-eqb n 0x0d e, ne-eqb n 0x0e f, ne-eqb n 0x0f g, ne-eqb n 0x11 h, ne-eqb n 0x12 i, ne-eqb n 0x13 j, ne-eqb n 0x14 k, ne-eqb n 0x19 l, ne-eqb n 0x20 m, ne-eqb n 0x21 o, ne-eqb n 0x22 p);
     })))))))))))))))
 
-record Reads (n : ℕ) : Type 0 where
-  status : isStatus (sourceOf n) ≡ eqb n 0x02
+pub record Reads (n : ℕ) : Type 0 where
+  pub status : isStatus (sourceOf n) ≡ eqb n 0x02
 
-reads : (n : ℕ) → Reads n
+pub reads : (n : ℕ) → Reads n
 unfolding sourceOf
 reads n =
     step Reads 0x00 n (record { status = refl }) (λ a. step Reads 0x01 n (record { status = refl }) (λ b. step Reads 0x02 n (record { status = refl }) (λ c. step Reads 0x03 n (record { status = refl }) (λ d. step Reads 0x04 n (record { status = refl }) (λ e. step Reads 0x05 n (record { status = refl }) (λ f. step Reads 0x06 n (record { status = refl }) (λ g. step Reads 0x07 n (record { status = refl }) (λ h. step Reads 0x08 n (record { status = refl }) (λ i. step Reads 0x10 n (record { status = refl }) (λ j. step Reads 0x11 n (record { status = refl }) (λ k. step Reads 0x12 n (record { status = refl }) (λ l. step Reads 0x13 n (record { status = refl }) (λ m. step Reads 0x14 n (record { status = refl }) (λ o. step Reads 0x19 n (record { status = refl }) (λ p. step Reads 0x20 n (record { status = refl }) (λ q. step Reads 0x21 n (record { status = refl }) (λ r. step Reads 0x22 n (record { status = refl }) (λ s. step Reads 0xfe n (record { status = refl }) (λ t. step Reads 0xff n (record { status = refl }) (λ u.
@@ -407,14 +407,14 @@ all-shown a b c d e f g h =
     (both (λ b. each (λ c. each (λ d. each (λ e. each (λ f. each (λ g. each (λ h. shows5 a b c d e f g h)))))))
     (both (λ a. each (λ b. each (λ c. each (λ d. each (λ e. each (λ f. each (λ g. each (λ h. shows5 a b c d e f g h)))))))) refl a) b) c) d) e) f) g) h
 
-record Shown (s : State) : Type 0 where
-  six : bit 6 (statusOf s) ≡ s .local .marks .high .flag
-  five : bit 5 (statusOf s) ≡ s .local .marks .low .flag
-  four : bit 4 (statusOf s) ≡ s .remote .marks .high .flag
-  three : bit 3 (statusOf s) ≡ s .remote .marks .low .flag
-  two : bit 2 (statusOf s) ≡ s .remote .marks .diode .flag
+pub record Shown (s : State) : Type 0 where
+  pub six : bit 6 (statusOf s) ≡ s .local .marks .high .flag
+  pub five : bit 5 (statusOf s) ≡ s .local .marks .low .flag
+  pub four : bit 4 (statusOf s) ≡ s .remote .marks .high .flag
+  pub three : bit 3 (statusOf s) ≡ s .remote .marks .low .flag
+  pub two : bit 2 (statusOf s) ≡ s .remote .marks .diode .flag
 
-shown : (s : State) → Shown s
+pub shown : (s : State) → Shown s
 unfolding statusOf
 shown s =
     let a = s .busy in
@@ -678,7 +678,7 @@ goes : (s : State) (h : History) (k : Checked) → Agrees s h → Goes s h k
 goes s h (Good e) g = applied s h e g
 goes s h (Bad code) g = idle s h _ _ g
 
-one-more : (s : State) (h : History) (e : Four) → wellFormed s ≡ true → Agrees s h → Agrees (answerFor s e .state) (told h s e)
+pub one-more : (s : State) (h : History) (e : Four) → wellFormed s ≡ true → Agrees s h → Agrees (answerFor s e .state) (told h s e)
 unfolding stepOf
 one-more s h e w g = rw w (goes s h (checkOf (e .kind) (e .a) (e .b) (e .c)) g)
 
@@ -692,7 +692,7 @@ after-one : (s : State) (e : Four) (es : List Four) → after s (e ∷ es) ≡ a
 unfolding lastFrom
 after-one s e es = last-state es (answerFor s e) (answerOf 0 0 (answerFor s e .state)) refl
 
-all-more : (es : List Four) (s : State) (h : History) → wellFormed s ≡ true → Agrees s h → Agrees (after s es) (historyFrom h s es)
+pub all-more : (es : List Four) (s : State) (h : History) → wellFormed s ≡ true → Agrees s h → Agrees (after s es) (historyFrom h s es)
 unfolding historyFrom lastFrom
 all-more [] s h w g = g
 all-more (e ∷ es) s h w g =
@@ -708,14 +708,14 @@ fresh (pos a) made = by (isAddress a) made
 fresh (negsuc n) made = absurd (omega (arith, made))
 
 -- a chip that was just powered on, and whatever it was sent
-agrees : (address : ℤ) → madeOf address .code ≡ 0 → (es : List Four) → Agrees (stateOf address es) (historyOf address es)
+pub agrees : (address : ℤ) → madeOf address .code ≡ 0 → (es : List Four) → Agrees (stateOf address es) (historyOf address es)
 unfolding historyOf
 agrees address made es =
     all-more es (madeOf address .state) [] (fresh-well-formed address made) (fresh address made)
 
 -- ---- The claims ----
 
-holds : (s : State) (h : History) → RestOf s h → (f : Flag) → (flagAt s f ≡ stands f h) × (opened f h ≡ closed f h + weight (stands f h) 1)
+pub holds : (s : State) (h : History) → RestOf s h → (f : Flag) → (flagAt s f ≡ stands f h) × (opened f h ≡ closed f h + weight (stands f h) 1)
 holds s h g (Limit Local Above) = (g .local-high .flag, g .local-high .spells)
 holds s h g (Limit Local Below) = (g .local-low .flag, g .local-low .spells)
 holds s h g (Limit Remote Above) = (g .remote-high .flag, g .remote-high .spells)

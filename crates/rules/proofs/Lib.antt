@@ -3,6 +3,7 @@ pub mod Alarm
 pub mod Choice
 pub mod Match
 pub mod NeverSix
+pub mod Shown
 pub mod Tables
 pub mod Unique
 pub mod WellFormed

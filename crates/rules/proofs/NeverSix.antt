@@ -90,7 +90,7 @@ step-code s kind a b c =
     (omega (arith, checked-small s (checkOf kind a b c) (check-small kind a b c)))
     (omega arith)
 
-after-well : (es : List Four) (x : Answer) → wellFormed (x .state) ≡ true → wellFormed (lastFrom x es .state) ≡ true
+pub after-well : (es : List Four) (x : Answer) → wellFormed (x .state) ≡ true → wellFormed (lastFrom x es .state) ≡ true
 unfolding lastFrom
 after-well [] x h = h
 after-well (e ∷ es) x h =

@@ -21,6 +21,7 @@ use Rattle.rules.specs.Channels.{any}
 use Rattle.rules.specs.Comparisons.{aboveOf, belowOf, limitOf}
 use Rattle.rules.specs.Configuration.{choosesTherm2, masked, standby}
 use Rattle.rules.specs.Event.{checkOf}
+use Rattle.rules.specs.Lines.{alertLine}
 use Rattle.rules.specs.PowerOn.{madeOf}
 use Rattle.rules.specs.Registers.{sensorAt}
 use Rattle.rules.specs.Sound.{after}
@@ -130,14 +131,24 @@ writeDeed earlier before v command =
     (cond (not (standby (before .config)) && standby (v .config)) Broke
     (deedIf (comparesAt command && standby (before .config) && converted earlier) Compared))
 
--- an event that is for the chip, by the registers before and after it. "Kinds 3 and 4 reply the register at the pointer": a status read is a
--- read of register 02
+-- "Kinds 3 and 4 reply the register at the pointer": a status read is one of register 02
+abbrev pub readsStatus : View → Event → Bool
+readsStatus before Reset = false
+readsStatus before (Send a n) = false
+readsStatus before (Write a n b) = false
+readsStatus before (Read a n) = eqb a (before .address) && eqb n 0x02
+readsStatus before (Receive a) = eqb a (before .address) && eqb (before .pointer) 0x02
+readsStatus before Respond = false
+readsStatus before Start = false
+readsStatus before (End l r broken) = false
+
+-- what an event did, by the registers before and after it; one for another address did nothing
 abbrev pub deedOf : History → View → View → Event → Deed
 deedOf earlier before v Reset = Idle
 deedOf earlier before v (Send a n) = Idle
 deedOf earlier before v (Write a n b) = cond (eqb a (before .address)) (writeDeed earlier before v n) Idle
-deedOf earlier before v (Read a n) = deedIf (eqb a (before .address) && eqb n 0x02) StatusRead
-deedOf earlier before v (Receive a) = deedIf (eqb a (before .address) && eqb (before .pointer) 0x02) StatusRead
+deedOf earlier before v (Read a n) = deedIf (readsStatus before (Read a n)) StatusRead
+deedOf earlier before v (Receive a) = deedIf (readsStatus before (Receive a)) StatusRead
 deedOf earlier before v Respond = Asked
 deedOf earlier before v Start = deedIf (not (standby (before .config)) && not (runs earlier)) Began
 deedOf earlier before v (End l r broken) = deedIf (runs earlier) (Measured broken)
@@ -367,12 +378,99 @@ ResponsesAnswered =
     (address : ℤ) → madeOf address .code ≡ 0 → (es : List Four)
     → answerFor (stateOf address es) respond .code ≡ cond (isLow (latched (historyOf address es)) (viewOf (stateOf address es))) 0 3
 
--- a status read shows each flag as the history has it: no fault that was found is lost, and none is invented
+-- a status read, of all five flags: the reply has each as the history has it
+abbrev pub checkedReads : View → Checked → Bool
+checkedReads v (Good e) = readsStatus v e
+checkedReads v (Bad code) = false
+
+abbrev pub formOf : Four → Checked
+formOf e = checkOf (e .kind) (e .a) (e .b) (e .c)
+
 abbrev pub isStatusEvent : State → Four → Bool
-isStatusEvent s e =
-    isStatusRead (checkedDeed [] (viewOf s) (viewOf s) (checkOf (e .kind) (e .a) (e .b) (e .c)))
+isStatusEvent s e = checkedReads (viewOf s) (formOf e)
 
 abbrev pub ReadsShow : Type 0
 ReadsShow =
     (address : ℤ) → madeOf address .code ≡ 0 → (es : List Four) (e : Four) → isStatusEvent (stateOf address es) e ≡ true → (f : Flag)
     → bit (placeOf f) (answerFor (stateOf address es) e .reply) ≡ stands f (historyOf address es)
+
+-- ---- What a firmware lead would look for ----
+
+-- after some events, one more, and others after it: the state, and the history
+abbrev pub stateThen : ℤ → List Four → Four → List Four → State
+stateThen address es e later = after (answerFor (stateOf address es) e .state) later
+
+abbrev pub historyThen : ℤ → List Four → Four → List Four → History
+historyThen address es e later =
+    historyFrom (told (historyOf address es) (stateOf address es) e) (answerFor (stateOf address es) e .state) later
+
+-- what the latest event of a history did
+abbrev pub findsNow : Flag → History → Bool
+findsNow f [] = false
+findsNow f (h ∷ earlier) = finds f h
+
+abbrev pub setsNow : History → Bool
+setsNow [] = false
+setsNow (h ∷ earlier) = sets h earlier
+
+abbrev pub clearsLatchNow : History → Bool
+clearsLatchNow [] = false
+clearsLatchNow (h ∷ earlier) = isAsked (h .deed) && isLow (latched earlier) (h .seen) && allClear earlier
+
+-- among events sent to a state, no power-on and no status read; no power-on and no alert response answered with all five flags 0
+unfoldable pub unread : State → List Four → Bool
+unread s [] = true
+unread s (e ∷ es) = not (isReset (formOf e)) && not (isStatusEvent s e) && unread (answerFor s e .state) es
+
+unfoldable pub uncleared : History → State → List Four → Bool
+uncleared h s [] = true
+uncleared h s (e ∷ es) =
+    not (isReset (formOf e)) && not (clearsLatchNow (told h s e)) && uncleared (told h s e) (answerFor s e .state) es
+
+-- a fault that a comparison finds is shown by the next status read
+abbrev pub FaultsShown : Type 0
+FaultsShown =
+    (address : ℤ) → madeOf address .code ≡ 0 → (es : List Four) (e : Four) (later : List Four) (r : Four) (f : Flag)
+    → findsNow f (historyThen address es e []) ≡ true → unread (stateThen address es e []) later ≡ true
+    → isStatusEvent (stateThen address es e later) r ≡ true
+    → bit (placeOf f) (answerFor (stateThen address es e later) r .reply) ≡ true
+
+-- a status read never shows a fault that no comparison since the last clearing read found
+abbrev pub NoneInvented : Type 0
+NoneInvented =
+    (address : ℤ) → madeOf address .code ≡ 0 → (es : List Four) (r : Four) (f : Flag) → isStatusEvent (stateOf address es) r ≡ true
+    → stands f (historyOf address es) ≡ false → bit (placeOf f) (answerFor (stateOf address es) r .reply) ≡ false
+
+-- from what set the latch until an alert response is answered with all flags 0, ALERT is low while configuration bits 7 and 5 are 0
+abbrev pub AlertStaysLow : Type 0
+AlertStaysLow =
+    (address : ℤ) → madeOf address .code ≡ 0 → (es : List Four) (e : Four) (later : List Four)
+    → setsNow (historyThen address es e []) ≡ true
+    → uncleared (historyThen address es e []) (stateThen address es e []) later ≡ true
+    → masked (stateThen address es e later .config) ≡ false → choosesTherm2 (stateThen address es e later .config) ≡ false
+    → alertLine (stateThen address es e later) ≡ false
+
+-- 0B, 0D: where a channel's high limit is written
+abbrev pub highCommand : Channel → ℕ
+highCommand Local = 0x0b
+highCommand Remote = 0x0d
+
+-- a high limit written in standby that leaves a converted channel's value above it shows in the next status read
+abbrev pub StandbyLimitShown : Type 0
+StandbyLimitShown =
+    (address : ℤ) → madeOf address .code ≡ 0 → (es : List Four) (e : Four) (later : List Four) (r : Four) (ch : Channel) (b : ℕ)
+    → formOf e ≡ Good (Write (stateOf address es .given .address) (highCommand ch) b)
+    → standby (stateOf address es .config) ≡ true → converted (historyOf address es) ≡ true
+    → beyond (viewOf (stateThen address es e [])) ch Above ≡ true → unread (stateThen address es e []) later ≡ true
+    → isStatusEvent (stateThen address es e later) r ≡ true
+    → bit (placeOf (Limit ch Above)) (answerFor (stateThen address es e later) r .reply) ≡ true
+
+-- and ALERT is low at once while those bits are 0
+abbrev pub StandbyLimitAlerts : Type 0
+StandbyLimitAlerts =
+    (address : ℤ) → madeOf address .code ≡ 0 → (es : List Four) (e : Four) (ch : Channel) (b : ℕ)
+    → formOf e ≡ Good (Write (stateOf address es .given .address) (highCommand ch) b)
+    → standby (stateOf address es .config) ≡ true → converted (historyOf address es) ≡ true
+    → beyond (viewOf (stateThen address es e [])) ch Above ≡ true
+    → masked (stateThen address es e [] .config) ≡ false → choosesTherm2 (stateThen address es e [] .config) ≡ false
+    → answerFor (stateOf address es) e .alert ≡ false
