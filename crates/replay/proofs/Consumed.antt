@@ -9,10 +9,12 @@ use lib.ListN.{length, drop}
 use borrow.Author.Tests.{ne-eqb}
 use Rattle.rules.specs.declared.state.State.{State}
 use Rattle.rules.specs.declared.answer.Answer.{Answer}
+use Rattle.rules.specs.Alarm.{answerFor}
 use Rattle.rules.specs.Sound.{after}
 use Rattle.rules.specs.Step.{answerOf, stepOf}
 use Rattle.rules.specs.Trial.{Four, lastFrom}
 use Rattle.rules.specs.WellFormed.{wellFormed}
+use Rattle.rules.proofs.Alarm.{after-one}
 use Rattle.rules.proofs.NeverSix.{step-small}
 use Rattle.rules.proofs.WellFormed.{fresh-well-formed, steps-well-formed}
 use Rattle.text.specs.declared.record.Parsed.{Parsed}
@@ -21,7 +23,7 @@ use Rattle.text.specs.Record.{recordOf}
 use Rattle.replay.specs.declared.play.Turn.{Turn}
 use Rattle.replay.specs.declared.play.Turn.the-variants.{Went, Stopped}
 use Rattle.replay.specs.Play.{Run, addedFrom, addedOf, answerTo, begun, ended, onTurn, runFrom, runOf, textOf, turnFrom, turnOf, went}
-use Rattle.replay.specs.Consumed.{ReplayNeverSix, ReplayTold, Told, answerFor, answersFrom, consumedFrom, consumedOf, eventOf, sixes, textsOf}
+use Rattle.replay.specs.Consumed.{ReplayNeverSix, ReplayTold, Told, answersFrom, consumedFrom, consumedOf, eventOf, sixes, textsOf}
 
 -- what a turn that went on left and added, by its event
 record Taken (s : State) (rest : List ℕ) (room : ℕ) (t : State) : Type 0 where
@@ -42,16 +44,6 @@ taken s rest room {t} {n} {k} e =
         fit false e = absurd (let z : _≡_ {A = ℕ} 0 1 = cc in omega arith)
     by Part e = absurd (let z : _≡_ {A = ℕ} 0 1 = cc in omega arith)
     by Malformed e = absurd (let z : _≡_ {A = ℕ} 0 1 = cc in omega arith)
-
--- the state after events is by the state alone
-last-state : (es : List Four) (x y : Answer) → x .state ≡ y .state → lastFrom x es .state ≡ lastFrom y es .state
-unfolding lastFrom
-last-state [] x y h = h
-last-state (e ∷ es) x y h = ap (λ (s : State). lastFrom (stepOf s (e .kind) (e .a) (e .b) (e .c)) es .state) h
-
-after-one : (s : State) (e : Four) (es : List Four) → after s (e ∷ es) ≡ after (answerFor s e .state) es
-unfolding lastFrom
-after-one s e es = last-state es (answerFor s e) (answerOf 0 0 (answerFor s e .state)) refl
 
 -- a run under way, and the events that it still consumes
 record Goes (p : Run) (es : List Four) (q : Run) : Type 0 where

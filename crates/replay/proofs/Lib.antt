@@ -1,4 +1,5 @@
 -- What is shown of replay, and the laws of its loop.
+pub mod Alarms
 pub mod Consumed
 pub mod Examples
 pub mod Plays

@@ -10,9 +10,9 @@ use lib.IntN.ℤ.{pos}
 use lib.ListN.{length, drop}
 use Rattle.rules.specs.declared.state.State.{State}
 use Rattle.rules.specs.declared.answer.Answer.{Answer}
+use Rattle.rules.specs.Alarm.{answerFor}
 use Rattle.rules.specs.PowerOn.{madeOf}
 use Rattle.rules.specs.Sound.{after}
-use Rattle.rules.specs.Step.{stepOf}
 use Rattle.rules.specs.Trial.{Four}
 use Rattle.text.specs.declared.record.Parsed.{Parsed}
 use Rattle.text.specs.declared.record.Parsed.the-variants.{Whole, Part, Malformed}
@@ -37,10 +37,7 @@ consumedFrom (suc turns) s rest room =
 unfoldable pub consumedOf : State → List ℕ → ℕ → List Four
 consumedOf s trace room = consumedFrom (length trace) s trace room
 
--- what one event is answered, and what events sent one after the other are
-abbrev pub answerFor : State → Four → Answer
-answerFor s e = stepOf s (e .kind) (e .a) (e .b) (e .c)
-
+-- what events sent one after the other are answered
 unfoldable pub answersFrom : State → List Four → List Answer
 answersFrom s [] = []
 answersFrom s (e ∷ es) = answerFor s e ∷ answersFrom (answerFor s e .state) es

@@ -3,4 +3,5 @@ pub mod Play
 pub mod Room
 pub mod Replay
 pub mod Consumed
+pub mod Alarms
 pub mod Examples

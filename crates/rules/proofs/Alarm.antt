@@ -688,7 +688,7 @@ unfolding lastFrom
 last-state [] x y e = e
 last-state (f ∷ es) x y e = ap (λ (s : State). lastFrom (stepOf s (f .kind) (f .a) (f .b) (f .c)) es .state) e
 
-after-one : (s : State) (e : Four) (es : List Four) → after s (e ∷ es) ≡ after (answerFor s e .state) es
+pub after-one : (s : State) (e : Four) (es : List Four) → after s (e ∷ es) ≡ after (answerFor s e .state) es
 unfolding lastFrom
 after-one s e es = last-state es (answerFor s e) (answerOf 0 0 (answerFor s e .state)) refl
 
