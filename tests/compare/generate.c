@@ -87,19 +87,26 @@ static int32_t aimed(generator *g, int32_t scale, int32_t low, int32_t high, int
     return random_between(g->random, -most / 4, most + most / 4);
 }
 
+/* Anything that may be measured, often the least or the most. */
+static int32_t extreme(generator *g, int32_t least, int32_t most)
+{
+    const int32_t values[] = {least, most, random_between(g->random, least, most)};
+    return PICK(g, values);
+}
+
 static int32_t local_sample(generator *g)
 {
     const uint8_t *reg = g->chip.reg;
-    if (random_chance(g->random, 3))
-        return random_between(g->random, -8192, 8191);
+    if (random_chance(g->random, 4))
+        return extreme(g, -8192, 8191);
     return local_measured(g, aimed(g, 1, reg[0x06], reg[0x05], reg[0x20]));
 }
 
 static int32_t remote_sample(generator *g)
 {
     const uint8_t *reg = g->chip.reg;
-    if (random_chance(g->random, 3))
-        return random_between(g->random, -32768, 32767);
+    if (random_chance(g->random, 4))
+        return extreme(g, -32768, 32767);
     return remote_measured(g, aimed(g, 4, 4 * reg[0x08] + reg[0x14] / 64, 4 * reg[0x07] + reg[0x13] / 64, reg[0x19]));
 }
 
@@ -298,23 +305,28 @@ static action *const actions[] = {
 enum { ACTIONS = sizeof actions / sizeof *actions };
 
 /* A trace keeps to one row. In one where every action were as likely, few states would live for long. */
-static const uint8_t characters[][ACTIONS] = {
+static const struct character {
+    bool in_standby;            /* the trace begins with a conversion, then standby */
+    uint8_t weights[ACTIONS];
+} characters[] = {
     /* conv st end lim sett conf shot off cons stat resp look rec any res bad for */
-    {20, 2, 2, 10, 3, 6, 3, 4, 3, 12, 6, 6, 3, 8, 1, 4, 4},     /* a little of all */
-    {30, 1, 1, 14, 4, 1, 0, 0, 1, 16, 10, 4, 1, 0, 0, 1, 0},    /* faults that come and go, and alerts */
-    {10, 0, 1, 40, 4, 3, 4, 1, 1, 20, 10, 3, 1, 0, 0, 1, 1},    /* standby */
-    {40, 1, 1, 2, 2, 2, 0, 0, 5, 10, 5, 0, 0, 0, 1, 0, 0},      /* faults in a row */
-    {25, 1, 1, 4, 1, 10, 2, 20, 1, 5, 2, 25, 1, 0, 0, 0, 0},    /* ranges and offsets */
-    {3, 3, 3, 1, 0, 2, 3, 1, 1, 3, 3, 2, 10, 50, 1, 8, 6},      /* any command */
-    {5, 5, 5, 1, 0, 4, 4, 0, 0, 4, 5, 0, 2, 5, 2, 40, 15},      /* mostly refused */
+    {false, {20, 2, 2, 10, 3, 6, 3, 4, 3, 12, 6, 6, 3, 8, 1, 4, 4}},    /* a little of all */
+    {false, {30, 1, 1, 14, 4, 1, 0, 0, 1, 16, 10, 4, 1, 0, 0, 1, 0}},   /* faults that come and go, and alerts */
+    {false, {40, 1, 1, 2, 2, 2, 0, 0, 5, 10, 5, 0, 0, 0, 1, 0, 0}},     /* faults in a row */
+    {true, {10, 0, 1, 40, 4, 3, 4, 1, 1, 20, 10, 3, 1, 0, 0, 1, 1}},    /* limits in standby */
+    {true, {30, 0, 0, 10, 12, 1, 0, 0, 5, 5, 2, 0, 0, 0, 0, 0, 0}},     /* one-shots in a row, alerts taken back between them */
+    {false, {25, 1, 1, 4, 1, 10, 2, 20, 1, 5, 2, 25, 1, 0, 0, 0, 0}},   /* ranges and offsets */
+    {false, {3, 3, 3, 1, 0, 2, 3, 1, 1, 3, 3, 2, 10, 50, 1, 8, 6}},     /* any command */
+    {false, {5, 5, 5, 1, 0, 4, 4, 0, 0, 4, 5, 0, 2, 5, 2, 40, 15}},     /* mostly refused */
 };
 
 generator generate_begin(randoms *random, trace *to, int32_t address)
 {
     generator g = {.random = random, .to = to};
-    g.weights = PICK(&g, characters);
+    const struct character *is = &PICK(&g, characters);
+    g.weights = is->weights;
     (void)second_fresh(&g.chip, address);
-    if (g.weights == characters[2]) {
+    if (is->in_standby) {
         convert(&g);
         say_write(&g, 0x09, 0x40);
     }

@@ -81,7 +81,7 @@ static size_t any_room(choice *c, size_t exact, randoms *random)
     }
 }
 
-static void count(const choice *c, int32_t code)
+static void count_case(const choice *c, int32_t code)
 {
     counted.address[c->address_class]++;
     counted.report[c->report_class]++;
@@ -109,7 +109,7 @@ static void run_one(pipes *model, uint64_t seed, uint64_t number)
 
     call_input in = {c.address, t.bytes, t.len, room, report_lengths[c.report_class], random_next(&random)};
     call_result both = compare_both(model, &in, label);
-    count(&c, both.code);
+    count_case(&c, both.code);
     call_result_free(&both);
     trace_free(&t);
 }

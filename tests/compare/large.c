@@ -59,13 +59,13 @@ uint64_t large_run(pipes *model)
 {
     const size_t most = SECOND_MOST_BYTES;
     trace fits = make_trace(most, 4), fills = make_trace(most + 1, 0);
-    run(model, "large: 16 MiB of trace, all answered", &fits, most, most, SECOND_DONE);
-    run(model, "large: 16 MiB of trace less the last newline", &fits, most - 1, most, SECOND_MALFORMED);
-    run(model, "large: 16 MiB of trace, 16 MiB of output used up", &fills, most, most, SECOND_NO_ROOM);
-    run(model, "large: 16 MiB of trace, room for a while", &fits, most, 1 << 20, SECOND_NO_ROOM);
-    run(model, "large: a trace one byte over 16 MiB", &fills, most + 1, 1 << 10, SECOND_BAD_FIELD);
-    run(model, "large: an output one byte over 16 MiB", &fits, 0, most + 1, SECOND_BAD_FIELD);
-    run(model, "large: no trace, 16 MiB of output left alone", &fits, 0, most, SECOND_DONE);
+    run(model, "large, 16 MiB of trace, all answered", &fits, most, most, SECOND_DONE);
+    run(model, "large, 16 MiB of trace less the last newline", &fits, most - 1, most, SECOND_MALFORMED);
+    run(model, "large, 16 MiB of trace, 16 MiB of output used up", &fills, most, most, SECOND_NO_ROOM);
+    run(model, "large, 16 MiB of trace, room for a while", &fits, most, 1 << 20, SECOND_NO_ROOM);
+    run(model, "large, a trace one byte over 16 MiB", &fills, most + 1, 1 << 10, SECOND_BAD_FIELD);
+    run(model, "large, an output one byte over 16 MiB", &fits, 0, most + 1, SECOND_BAD_FIELD);
+    run(model, "large, no trace, 16 MiB of output left alone", &fits, 0, most, SECOND_DONE);
     trace_free(&fits);
     trace_free(&fills);
     return 7;

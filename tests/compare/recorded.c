@@ -73,7 +73,9 @@ static void run(pipes *model, const char *folder, const entry *e)
     load(&answers, folder, e->name, ".answers");
     size_t room = e->room == SIZE_MAX ? answers.len + SPARE : e->room;
     call_input in = {e->address, records.bytes, records.len, room, SECOND_REPORT_BYTES, records.len};
-    call_result both = compare_both(model, &in, e->name);
+    char label[80];
+    snprintf(label, sizeof label, "recorded, %s", e->name);
+    call_result both = compare_both(model, &in, label);
 
     uint8_t report[SECOND_REPORT_BYTES];
     report_wanted(report, e, &records, &answers);
