@@ -2,12 +2,32 @@
 #include "compare.h"
 #include "second.h"
 
+#include <sanitizer/common_interface_defs.h>
+#include <stdarg.h>
 #include <stdbool.h>
 #include <stdio.h>
 #include <stdlib.h>
 #include <string.h>
 
 enum { LINES = 4, AROUND = 3, SHOWN = 80 };     /* lines of a record; records and bytes shown on each side */
+
+static char name[100];
+
+/* A sanitizer ends the driver on the spot, and what stdout holds back would be lost. */
+static void show_name(void)
+{
+    printf("FAILED: ended by a sanitizer: %s\n", name);
+    fflush(stdout);
+}
+
+void compare_name(const char *format, ...)
+{
+    va_list values;
+    va_start(values, format);
+    vsnprintf(name, sizeof name, format, values);
+    va_end(values);
+    __sanitizer_set_death_callback(show_name);
+}
 
 size_t compare_first(const uint8_t *x, const uint8_t *y, size_t len)
 {
@@ -86,10 +106,10 @@ static size_t record_of(const call_input *in, const call_result *second, size_t 
     return second->report[4] + 256U * second->report[5] + 65536U * second->report[6];
 }
 
-static void show_difference(const call_input *in, const call_result *model, const call_result *second, const char *label)
+static void show_difference(const call_input *in, const call_result *model, const call_result *second)
 {
     size_t at = compare_first(model->output, second->output, in->output_len);
-    printf("DIFFERENT: %s\n", label);
+    printf("DIFFERENT: %s\n", name);
     printf("address %d, trace %zu bytes, output %zu bytes, report %zu bytes, fill %llu\n", in->address,
            in->trace_len, in->output_len, in->report_len, (unsigned long long)in->fill);
     show_result("model", model, in->report_len);
@@ -108,12 +128,12 @@ static bool is_same(const call_input *in, const call_result *model, const call_r
         && memcmp(model->report, second->report, in->report_len) == 0;
 }
 
-call_result compare_both(pipes *model, const call_input *in, const char *label)
+call_result compare_both(pipes *model, const call_input *in)
 {
     call_result of_model = pipes_call(model, in);
     call_result of_second = call_replay(second_replay, in);
     if (!is_same(in, &of_model, &of_second)) {
-        show_difference(in, &of_model, &of_second, label);
+        show_difference(in, &of_model, &of_second);
         exit(1);
     }
     call_result_free(&of_model);

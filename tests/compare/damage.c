@@ -113,8 +113,6 @@ static void swap_lines(trace *t, randoms *random)
 void damage_do(damage kind, trace *t, randoms *random)
 {
     uint8_t byte = any_byte(random);
-    if (t->len == 0)
-        return;
     switch (kind) {
     case DAMAGE_CHANGED:
         t->bytes[any_place(t, random)] = byte;

@@ -24,7 +24,7 @@ typedef enum {
 
 extern const char *const damage_names[DAMAGES];
 
-/* Damages a trace; an empty one stays as it is. */
+/* Damages a trace, which is not empty if there is a damage to do. */
 void damage_do(damage kind, trace *t, randoms *random);
 
 #endif

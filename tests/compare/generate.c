@@ -217,7 +217,8 @@ static void settle(generator *g)
     wide_limits(g);
     if ((reg[0x03] & 0x40) == 0) {
         start(g);
-        say(g, END, local_measured(g, calm(g, reg[0x06], reg[0x05])), remote_measured(g, calm(g, 4 * reg[0x08], 4 * reg[0x07])), 0);
+        say(g, END, local_measured(g, calm(g, reg[0x06], reg[0x05])),
+            remote_measured(g, calm(g, 4 * reg[0x08], 4 * reg[0x07])), 0);
     }
     status(g);
     respond(g);

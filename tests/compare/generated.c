@@ -5,7 +5,6 @@
 #include "damage.h"
 #include "generate.h"
 
-#include <stdio.h>
 #include <stdlib.h>
 
 /* A case before its sizes are known. */
@@ -40,7 +39,7 @@ static choice choose(randoms *random)
     return c;
 }
 
-static void make_trace(trace *t, const choice *c, randoms *random)
+static void make_trace(trace *t, choice *c, randoms *random)
 {
     static const int32_t most[] = {0, 2, 10, 40, 40, 40, 40, 80, 80, 200};
     int32_t steps = random_between(random, 0, most[random_below(random, sizeof most / sizeof *most)]);
@@ -50,6 +49,8 @@ static void make_trace(trace *t, const choice *c, randoms *random)
         for (int32_t i = 0; i < steps; i++)
             generate_more(&g);
     }
+    if (t->len == 0)
+        c->damage = DAMAGE_NONE;
     damage_do(c->damage, t, random);
 }
 
@@ -99,8 +100,7 @@ static void run_one(pipes *model, uint64_t seed, uint64_t number)
     randoms random = {seed * UINT64_C(0x2545F4914F6CDD1D) + number};
     trace t = trace_make();
     choice c = choose(&random);
-    char label[80];
-    snprintf(label, sizeof label, "generated, seed %llu, case %llu", (unsigned long long)seed, (unsigned long long)number);
+    compare_name("generated, seed %llu, case %llu", (unsigned long long)seed, (unsigned long long)number);
 
     second_seen seen = second_seen_counts;      /* what is asked of the second model in making a case is not a case */
     make_trace(&t, &c, &random);
@@ -108,7 +108,7 @@ static void run_one(pipes *model, uint64_t seed, uint64_t number)
     second_seen_counts = seen;
 
     call_input in = {c.address, t.bytes, t.len, room, report_lengths[c.report_class], random_next(&random)};
-    call_result both = compare_both(model, &in, label);
+    call_result both = compare_both(model, &in);
     count_case(&c, both.code);
     call_result_free(&both);
     trace_free(&t);

@@ -44,12 +44,13 @@ static trace make_trace(size_t len, unsigned padding)
     return t;
 }
 
-static void run(pipes *model, const char *label, const trace *t, size_t trace_len, size_t output_len, int32_t code)
+static void run(pipes *model, const char *what, const trace *t, size_t trace_len, size_t output_len, int32_t code)
 {
     call_input in = {76, t->bytes, trace_len, output_len, SECOND_REPORT_BYTES, trace_len + output_len};
-    call_result both = compare_both(model, &in, label);
+    compare_name("large, %s", what);
+    call_result both = compare_both(model, &in);
     if (both.code != code) {
-        printf("FAILED: %s: both models return %d, meant is %d\n", label, both.code, code);
+        printf("FAILED: large, %s: both models return %d, wanted %d\n", what, both.code, code);
         exit(1);
     }
     call_result_free(&both);
@@ -59,13 +60,13 @@ uint64_t large_run(pipes *model)
 {
     const size_t most = SECOND_MOST_BYTES;
     trace fits = make_trace(most, 4), fills = make_trace(most + 1, 0);
-    run(model, "large, 16 MiB of trace, all answered", &fits, most, most, SECOND_DONE);
-    run(model, "large, 16 MiB of trace less the last newline", &fits, most - 1, most, SECOND_MALFORMED);
-    run(model, "large, 16 MiB of trace, 16 MiB of output used up", &fills, most, most, SECOND_NO_ROOM);
-    run(model, "large, 16 MiB of trace, room for a while", &fits, most, 1 << 20, SECOND_NO_ROOM);
-    run(model, "large, a trace one byte over 16 MiB", &fills, most + 1, 1 << 10, SECOND_BAD_FIELD);
-    run(model, "large, an output one byte over 16 MiB", &fits, 0, most + 1, SECOND_BAD_FIELD);
-    run(model, "large, no trace, 16 MiB of output left alone", &fits, 0, most, SECOND_DONE);
+    run(model, "16 MiB of trace, all answered", &fits, most, most, SECOND_DONE);
+    run(model, "16 MiB of trace less the last newline", &fits, most - 1, most, SECOND_MALFORMED);
+    run(model, "16 MiB of trace, 16 MiB of output used up", &fills, most, most, SECOND_NO_ROOM);
+    run(model, "16 MiB of trace, room for a while", &fits, most, 1 << 20, SECOND_NO_ROOM);
+    run(model, "a trace one byte over 16 MiB", &fills, most + 1, 1 << 10, SECOND_BAD_FIELD);
+    run(model, "an output one byte over 16 MiB", &fits, 0, most + 1, SECOND_BAD_FIELD);
+    run(model, "no trace, 16 MiB of output left alone", &fits, 0, most, SECOND_DONE);
     trace_free(&fits);
     trace_free(&fills);
     return 7;

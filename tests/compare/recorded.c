@@ -69,13 +69,12 @@ static void report_wanted(uint8_t *report, const entry *e, const content *record
 static void run(pipes *model, const char *folder, const entry *e)
 {
     static content records, answers;
+    compare_name("recorded, %s", e->name);
     load(&records, folder, e->name, ".trace");
     load(&answers, folder, e->name, ".answers");
     size_t room = e->room == SIZE_MAX ? answers.len + SPARE : e->room;
     call_input in = {e->address, records.bytes, records.len, room, SECOND_REPORT_BYTES, records.len};
-    char label[80];
-    snprintf(label, sizeof label, "recorded, %s", e->name);
-    call_result both = compare_both(model, &in, label);
+    call_result both = compare_both(model, &in);
 
     uint8_t report[SECOND_REPORT_BYTES];
     report_wanted(report, e, &records, &answers);

@@ -2,7 +2,7 @@
 # Compares the proved model with the second one, on the recorded traces, on generated ones and on large ones.
 #   tests/compare/run.sh                             the gate's run
 #   tests/compare/run.sh --seed 7 --count 1000000    other traces, and more of them
-# The model is x86-64 code. On another machine it runs in an emulator; the driver and the second model always run on the machine itself.
+# The model is x86-64 code; on another machine it runs in an emulator. The driver and the second model run on the machine itself.
 set -euo pipefail
 cd "$(dirname "$0")/../.."
 
@@ -34,8 +34,12 @@ if [[ ! -e $archive || -n $(find crates crates.txt -newer "$archive" -print -qui
 fi
 
 # The index decides what is run, so it must leave no trace out.
-diff <(sed '/^#/d; s/ .*//' tests/traces/INDEX.txt | sort) <(find tests/traces -name '*.trace' -printf '%f\n' | sed 's/\.trace$//' | sort) ||
-    { echo "FAILED: INDEX.txt (<) and the traces there (>) differ"; exit 1; }
+listed=$(sed '/^#/d; s/ .*//' tests/traces/INDEX.txt | sort)
+there=$(find tests/traces -name '*.trace' -printf '%f\n' | sed 's/\.trace$//' | sort)
+if [[ $listed != "$there" ]]; then
+    echo "FAILED: tests/traces/INDEX.txt (<) and the traces there (>) differ"
+    diff <(echo "$listed") <(echo "$there") || exit 1
+fi
 
 mkdir -p "$built"
 at=tests/compare
