@@ -20,6 +20,13 @@ static void show_name(void)
     fflush(stdout);
 }
 
+/* The undefined behaviour sanitizer has no callback to set; it calls this by its name. */
+void __ubsan_on_report(void);
+void __ubsan_on_report(void)
+{
+    show_name();
+}
+
 void compare_name(const char *format, ...)
 {
     va_list values;
