@@ -1,21 +1,10 @@
 #!/usr/bin/env bash
 # Runs the small program on traces that are made here, and compares all that it writes with what document 01 says, worked out here from the
-# format of records and answers. Run after `rt ci` or `rt check console`, which build it. The last line is 'N passed, M failed'.
+# format of records and answers. The last line is 'N passed, M failed'.
 set -euo pipefail
 cd "$(dirname "$0")/.."
 
-# As rt runs a program: under the kit's loader and C library, and on a processor that is not x86-64 under the kit's emulator.
-kit=$(dirname "$(dirname "$(rt doc)")")
-tools=$kit/on/$(uname -m)/toolchain
-program=("$tools/lib/ld-linux-x86-64.so.2" --library-path "$tools/lib" target/bin/console)
-if [[ -x $tools/bin/qemu-x86_64 ]]; then
-    program=("$tools/bin/qemu-x86_64" "${program[@]}")
-fi
-if [[ ! -x target/bin/console ]]; then
-    echo "FAILED: target/bin/console is not built"
-    echo "0 passed, 1 failed"
-    exit 1
-fi
+program=(tools/replay.sh)
 
 room=$(mktemp -d)
 trap 'rm -rf "$room"' EXIT

@@ -1,0 +1,89 @@
+/* counts.c - see counts.h. */
+#include "counts.h"
+#include "second.h"
+
+#include <stdio.h>
+#include <string.h>
+
+counts counted;
+static unsigned zeros;
+
+void counts_zero(void)
+{
+    memset(&counted, 0, sizeof counted);
+    memset(&second_seen_counts, 0, sizeof second_seen_counts);
+}
+
+static void show(const char *what, const char *which, uint64_t number)
+{
+    printf("%-26s %-24s %10llu%s\n", what, which, (unsigned long long)number, number == 0 ? "  ZERO" : "");
+    zeros += number == 0;
+}
+
+static void show_each(const char *what, const char *const names[], const uint64_t numbers[], size_t len)
+{
+    for (size_t i = 0; i < len; i++)
+        show(what, names[i], numbers[i]);
+}
+
+/* One line for all 256, and one for each that is missing. */
+static void show_commands(const char *what, const uint64_t numbers[256])
+{
+    unsigned seen = 0, least = 0;
+    char which[64];
+    for (unsigned i = 0; i < 256; i++) {
+        if (numbers[i] < numbers[least])
+            least = i;
+        seen += numbers[i] != 0;
+    }
+    snprintf(which, sizeof which, "%u of 256, least 0x%02X", seen, least);
+    printf("%-26s %-24s %10llu\n", what, which, (unsigned long long)numbers[least]);
+    for (unsigned i = 0; i < 256; i++) {
+        snprintf(which, sizeof which, "0x%02X", i);
+        if (numbers[i] == 0)
+            show(what, which, 0);
+    }
+}
+
+#define SHOW_EACH(what, names, numbers) show_each(what, names, numbers, sizeof(names) / sizeof *(names))
+
+/* What the second model counted. */
+static void show_seen(const second_seen *seen)
+{
+    static const char *const codes[] = {"0", "1", "2", "3", "4", "5"};
+    static const char *const flags[] = {"open", "remote low", "remote high", "local low", "local high"};
+    static const char *const needed[] = {"1", "2", "3", "4"};
+    show_commands("commands read", seen->read);
+    show_commands("commands written", seen->written);
+    SHOW_EACH("answered with code", codes, seen->code);
+    show("replay ended with code", "7", seen->code[SECOND_MALFORMED]);
+    show("replay ended with code", "8", seen->code[SECOND_NO_ROOM]);
+    show("replay refused with code", "2", counted.refused);
+    SHOW_EACH("flag set", flags, seen->flag_set);
+    SHOW_EACH("flag kept at a read", flags, seen->flag_kept);
+    SHOW_EACH("flag cleared at a read", flags, seen->flag_cleared);
+    show("latch set", "by an open diode", seen->latch_by_open);
+    show("latch set", "by the run count", seen->latch_by_run);
+    show("latch set", "in standby", seen->latch_by_standby);
+    show("latch cleared", "", seen->latch_cleared);
+    show("conversion ended", "default range", seen->converted_default);
+    show("conversion ended", "extended range", seen->converted_extended);
+    show("conversion ended", "diode open", seen->converted_open);
+    SHOW_EACH("conversion ended, needed", needed, seen->converted_needed);
+    show("conversion started", "by a one-shot", seen->one_shots);
+    show("standby comparison", "", seen->standby_compares);
+}
+
+unsigned counts_show(void)
+{
+    static const char *const addresses[ADDRESSES] = {"76", "77", "0", "12", "75", "78", "-1", "large"};
+    static const char *const rooms[ROOMS] = {"0", "exact", "one less", "ample", "random"};
+    static const char *const reports[REPORTS] = {"0", "15", "17", "16"};
+    zeros = 0;
+    show_seen(&second_seen_counts);
+    SHOW_EACH("address", addresses, counted.address);
+    SHOW_EACH("output room", rooms, counted.room);
+    SHOW_EACH("report length", reports, counted.report);
+    show_each("trace", damage_names, counted.damage, DAMAGES);
+    return zeros;
+}
