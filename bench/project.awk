@@ -71,18 +71,29 @@ END {
         give("replay (not divided)", "replay", f, l)
 
     s = "text::line::line"
-    if (s in first) {
-        # The name's loop is the first that jumps back.
-        for (i = first[s]; i <= last[s] && !loop; i++)
-            if (of[i] == s && match(code[i], /\tj[a-z]+ +[0-9a-f]+/)) {
-                target = substr(code[i], RSTART, RLENGTH)
-                sub(/.* /, "", target)
-                if (length(target) == length(where[i]) - 2 && "0x" target < where[i])
-                    loop = i
-            }
-        give("names", s, first[s], loop)
-        give("numbers", s, loop + 1, last[s])
-    }
+    f = first[s]; l = last[s]
+    # The name's loop is the first that jumps back, and the way out is what stands between a jump and the return.
+    for (i = f; i <= l && !loop; i++)
+        if (of[i] == s && match(code[i], /\tj[a-z]+ +[0-9a-f]+/)) {
+            target = substr(code[i], RSTART, RLENGTH)
+            sub(/.* /, "", target)
+            if (length(target) == length(where[i]) - 2 && "0x" target < where[i])
+                loop = i
+        }
+    mark[1] = f
+    mark[2] = seen(" " target ":", f, l)
+    mark[3] = loop
+    mark[5] = seen("\tret", f, l)
+    mark[4] = seen_back("\tj", mark[5], f)
+    marks = 5
+    if (ordered()) {
+        give("reading: from line to line", s, mark[1], mark[2] - 1)
+        give("names", s, mark[2], mark[3])
+        give("numbers", s, mark[3] + 1, mark[4])
+        give("reading: from line to line", s, mark[4] + 1, mark[5])
+        give("numbers", s, mark[5] + 1, l)
+    } else if (f)
+        give(s " (not divided)", s, f, l)
     for (i = 1; i <= n; i++)
         if (of[i] != "replay" && of[i] != s)
             give(of[i], of[i], i, i)

@@ -23,7 +23,8 @@ for level in 2 3; do
         objects+=("$out/o${level}_$file.o")
     done
 done
-"${x86_cc[@]}" "${warn[@]}" -O2 -Iinclude bench/bench.c "${objects[@]}" "$x86_library" -o "$program"
+# Static and at fixed addresses, so that what is counted at an address is found in the listing, and the same on every machine.
+"${x86_cc[@]}" "${warn[@]}" -O2 -static -no-pie -Iinclude bench/bench.c "${objects[@]}" "$x86_library" -o "$program"
 
 # ---- bytes per second
 
@@ -120,6 +121,9 @@ while read -r trace longest sixteenth <&3; do
         else
             cut -d' ' -f1 "$file.addresses" | "${binutils}addr2line" -f -e "$program" | paste -d' ' - - |
                 paste -d' ' "$file.addresses" - | awk -v names="$names" -f bench/second.awk
-        fi | awk -F'\t' -v bytes="$bytes" -v records="$records" '{ printf "  %-46s %9.2f per byte %9.1f per record\n", $1, $2 / bytes, $2 / records }'
+        fi | awk -F'\t' -v bytes="$bytes" -v records="$records" '
+            function show(part, n) { printf "  %-46s %9.2f per byte %9.1f per record\n", part, n / bytes, n / records }
+            { show($1, $2); sum += $2 }
+            END { show("all", sum) }'
     done
 done 3<"$out/sizes"
