@@ -169,16 +169,33 @@ def unfit(log, at):
     for word in UNFIT:
         if word in errors[0][:600]:
             return f"first error: {errors[0][:160]}"
-    if at and not any(f"/{at}:" in line and ": error" in line for line in errors):
-        return f"no error in {at}"
+    if at and not any(f"/{place}:" in line and ": error" in line for line in errors for place in at):
+        return f"no error in {' or '.join(at)}"
     return ""
 
 
+# Which file must refuse an edit of the rules: a table, or the alarm theorem; of these the theorem itself.
+TABLES, THEOREM = "proofs/Tables.antt", "proofs/Alarm.antt"
+ALARMS = [
+    "read_clears_every_flag", "read_clears_no_flag", "compares_outside_standby", "no_standby_comparison",
+    "compares_what_was_never_converted", "read_clears_the_latch", "response_always_clears", "open_diode_waits_for_the_count",
+    "standby_raises_the_count", "reset_keeps_a_flag", "reset_keeps_the_latch", "reset_keeps_the_run_count", "reset_keeps_the_state",
+]
+
+
+def places(crate, name):
+    if crate != "rules":
+        return []
+    return [THEOREM] if name in ALARMS else [TABLES, THEOREM]
+
+
 def edits():
-    check("an edit that only breaks the proof's form is found", [] if unfit("a.antt:1:1: error: it has no `Need-x` that", "") else ["it is not"])
+    check("an edit that only breaks the proof's form is found", [] if unfit("a.antt:1:1: error: it has no `Need-x` that", []) else ["it is not"])
     log = "a.antt:1:1: error: `rw`: no occurrence of the path's left endpoint"
-    check("an edit refused at a rewrite counts", [unfit(log, "")] if unfit(log, "") else [])
-    check("an edit of the rules refused outside the tables is found", [] if unfit(log, "proofs/Tables.antt") else ["it is not"])
+    check("an edit refused at a rewrite counts", [unfit(log, [])] if unfit(log, []) else [])
+    check("an edit of the rules refused outside the tables and the theorem is found", [] if unfit(log, [TABLES, THEOREM]) else ["it is not"])
+    missing = [name for name in ALARMS if not (ROOT / "crates" / "rules" / "must-fail" / f"{name}.edit").exists()]
+    check("the edits that the alarm theorem must refuse are there", missing)
     found, seen = [], 0
     for path in sorted(ROOT.glob("crates/*/must-fail/*.edit")):
         crate = path.parts[-3]
@@ -186,9 +203,9 @@ def edits():
         seen += 1
         if not log.exists():
             found.append(f"{crate}/{path.stem}: not tried")
-        elif why := unfit(log.read_text(), "proofs/Tables.antt" if crate == "rules" else ""):
+        elif why := unfit(log.read_text(), places(crate, path.stem)):
             found.append(f"{crate}/{path.stem}: {why}")
-    check(f"{seen} must-fail edits are refused in a proof that fits the code's form, those of the rules by a table", found)
+    check(f"{seen} must-fail edits are refused in a proof that fits the code's form, those of the rules by a table or the theorem", found)
 
 
 # ---- the hand-worked cases

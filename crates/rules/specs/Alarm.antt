@@ -394,8 +394,6 @@ ReadsShow =
     (address : ℤ) → madeOf address .code ≡ 0 → (es : List Four) (e : Four) → isStatusEvent (stateOf address es) e ≡ true → (f : Flag)
     → bit (placeOf f) (answerFor (stateOf address es) e .reply) ≡ stands f (historyOf address es)
 
--- ---- What a firmware lead would look for ----
-
 -- after some events, one more, and others after it: the state, and the history
 abbrev pub stateThen : ℤ → List Four → Four → List Four → State
 stateThen address es e later = after (answerFor (stateOf address es) e .state) later
@@ -403,6 +401,14 @@ stateThen address es e later = after (answerFor (stateOf address es) e .state) l
 abbrev pub historyThen : ℤ → List Four → Four → List Four → History
 historyThen address es e later =
     historyFrom (told (historyOf address es) (stateOf address es) e) (answerFor (stateOf address es) e .state) later
+
+-- "from the latest power-on": after a reset the chip, and its history, are those of a chip just powered on
+abbrev pub ResetBeginsAnew : Type 0
+ResetBeginsAnew =
+    (address : ℤ) → madeOf address .code ≡ 0 → (es : List Four) (e : Four) (later : List Four) → isReset (formOf e) ≡ true
+    → (stateThen address es e later ≡ stateOf address later) × (historyThen address es e later ≡ historyOf address later)
+
+-- ---- What a firmware lead would look for ----
 
 -- what the latest event of a history did
 abbrev pub findsNow : Flag → History → Bool
