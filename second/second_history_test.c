@@ -153,6 +153,9 @@ static void test_gone_and_read(void)
 static void test_two_spells(void)
 {
     begin(76);
+    STATUS_READ(0, 1);                              /* no comparison made */
+    for (int flag = 0; flag < HISTORY_FLAGS; flag++)
+        CHECK(history_clearing_read(&h, flag, 0) && flag_is(flag, 0, 0, false));
     CONVERT(86, 100, 0, 1, 0);
     CONVERT(50, 100, 0, 0, 0);
     CONVERT(86, 100, 0, 0, 0);                      /* not read out in between: the same spell */

@@ -63,10 +63,16 @@ typedef struct {
     const call_input *in;
 } subject;
 
-static bool fail(const subject *s, size_t event, const char *what)
+static void say(const subject *s, size_t event, const char *what)
 {
     static const char *const names[ALARMS_MODELS] = {"the model", "the second model"};
     printf("ALARMS: %s: in the answers of %s, at event %zu, this does not hold: %s\n", s->name, names[s->whose], event, what);
+}
+
+static bool fail(const subject *s, size_t event, const char *what)
+{
+    say(s, event, what);
+    compare_show_trace(s->in->trace, s->in->trace_len, event);
     return false;
 }
 
@@ -75,7 +81,7 @@ static bool all_hold(const subject *s, size_t event, unsigned wrong)
 {
     for (int claim = 0; claim < HISTORY_CLAIMS; claim++)
         if ((wrong >> claim & 1) != 0)
-            fail(s, event, history_claims[claim]);
+            say(s, event, history_claims[claim]);
     if (wrong != 0)
         compare_show_trace(s->in->trace, s->in->trace_len, event);
     return wrong == 0;
