@@ -1,23 +1,23 @@
 /* second_test.c - tests from document 01's cases and rules; expected values are from the document. */
 #include "second.h"
+#include "second_history.h"
+#include "second_test.h"
 
-#include <stdbool.h>
 #include <stdio.h>
 #include <stdlib.h>
 #include <string.h>
 
 static int passed, failed;
 
-static void check_at(int line, bool good, const char *what)
+void check_at(const char *file, int line, bool good, const char *what)
 {
     if (good) {
         passed++;
     } else {
         failed++;
-        printf("line %d: %s\n", line, what);
+        printf("%s, line %d: %s\n", file, line, what);
     }
 }
-#define CHECK(condition) check_at(__LINE__, (condition), #condition)
 
 static void step_at(int line, second_chip *chip, int32_t kind, int32_t a, int32_t b, int32_t c,
                     int code, int reply, int alert, int therm)
@@ -686,7 +686,7 @@ static void replay_at(int line, int32_t address, const char *trace, size_t len, 
         && got.word[2] == used && got.word[3] == written && memcmp(got.output, answers, written) == 0;
     for (size_t i = written; i < ROOM; i++)
         good = good && got.output[i] == UNTOUCHED;
-    check_at(line, good, "replay");
+    check_at(__FILE__, line, good, "replay");
     if (!good)
         printf("  code %d records %u used %u written %u\n", (int)got.code, got.word[1], got.word[2], got.word[3]);
 }
@@ -932,8 +932,13 @@ static void test_walks(void)
 
     for (int walk = 0; walk < 40; walk++) {
         second_chip chip = fresh();
+        static history_moment list[4000];
+        history_counts counts = { .answered = 0 };
+        second_history history;
+        history_begin(&history, 76, list, sizeof list / sizeof *list, &counts);
         size_t used = 0, written = 0;
         bool steady = true, lines = true;
+        unsigned wrong = 0;
         static char expected[600000];
         for (int i = 0; i < 4000; i++) {
             int32_t kind = (int32_t)random_number(100) - 1, a = 0, b = 0, c = 0;
@@ -958,6 +963,7 @@ static void test_walks(void)
                 && (answer.code == 0 || memcmp(&before, &chip, sizeof chip) == 0);
             lines = lines && answer.therm == ((chip.reg[2] & 3) == 0)
                 && answer.alert == !(chip.alert_latch && (chip.reg[3] & 0xA0) == 0);
+            wrong |= history_take(&history, kind, a, b, c, answer);
             used += (size_t)snprintf(trace + used, sizeof trace - used, "kind=%d\na=%d\nb=%d\nc=%d\n",
                                      (int)kind, (int)a, (int)b, (int)c);
             written += (size_t)snprintf(expected + written, sizeof expected - written,
@@ -966,6 +972,7 @@ static void test_walks(void)
         }
         CHECK(steady);
         CHECK(lines);
+        CHECK((wrong | history_end(&history)) == 0);
         CHECK(second_replay(76, (uint8_t *)trace, used, output, sizeof output, report, 16) == 0);
         CHECK(memcmp(output, expected, written) == 0);
         CHECK((size_t)(report[12] | report[13] << 8 | report[14] << 16) == written);
@@ -993,6 +1000,7 @@ int main(void)
     test_refused_replay();
     test_counters();
     test_walks();
+    test_history();
     printf("%d passed, %d failed\n", passed, failed);
     return failed != 0;
 }

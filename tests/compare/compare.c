@@ -1,5 +1,6 @@
 /* compare.c - see compare.h. */
 #include "compare.h"
+#include "alarms.h"
 #include "second.h"
 
 #include <sanitizer/common_interface_defs.h>
@@ -139,6 +140,9 @@ call_result compare_both(pipes *model, const call_input *in)
 {
     call_result of_model = pipes_call(model, in);
     call_result of_second = call_replay(second_replay, in);
+    /* Each model is held to the alarms first, so that what breaks them says so and not only that the models differ. */
+    if (!alarms_hold(ALARMS_MODEL, name, in, &of_model) || !alarms_hold(ALARMS_SECOND, name, in, &of_second))
+        exit(1);
     if (!is_same(in, &of_model, &of_second)) {
         show_difference(in, &of_model, &of_second);
         exit(1);

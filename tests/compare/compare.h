@@ -9,8 +9,9 @@
 void compare_name(const char *format, ...);
 
 /*
- * Has both models called and compares return value, every byte of output and report, and the guards.
- * At a difference it shows the case and ends the driver. Gives the answer of both.
+ * Has both models called, holds the answers of each to the claims on alarms (alarms.h), and compares return value,
+ * every byte of output and report, and the guards. At a claim that does not hold, or a difference, it shows the case
+ * and ends the driver. Gives the answer of both.
  */
 call_result compare_both(pipes *model, const call_input *in);
 

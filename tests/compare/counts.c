@@ -1,5 +1,6 @@
 /* counts.c - see counts.h. */
 #include "counts.h"
+#include "alarms.h"
 #include "second.h"
 
 #include <stdio.h>
@@ -12,6 +13,7 @@ void counts_zero(void)
 {
     memset(&counted, 0, sizeof counted);
     memset(&second_seen_counts, 0, sizeof second_seen_counts);
+    memset(alarms_counts, 0, sizeof alarms_counts);
 }
 
 static void show(const char *what, const char *which, uint64_t number)
@@ -47,11 +49,12 @@ static void show_commands(const char *what, const uint64_t numbers[256])
 
 #define SHOW_EACH(what, names, numbers) show_each(what, names, numbers, sizeof(names) / sizeof *(names))
 
+static const char *const flags[] = {"open", "remote low", "remote high", "local low", "local high"};
+
 /* What the second model counted. */
 static void show_seen(const second_seen *seen)
 {
     static const char *const codes[] = {"0", "1", "2", "3", "4", "5"};
-    static const char *const flags[] = {"open", "remote low", "remote high", "local low", "local high"};
     static const char *const needed[] = {"1", "2", "3", "4"};
     show_commands("commands read", seen->read);
     show_commands("commands written", seen->written);
@@ -74,6 +77,40 @@ static void show_seen(const second_seen *seen)
     show("standby comparison", "", seen->standby_compares);
 }
 
+static void show_both(const char *what, const char *which, uint64_t model, uint64_t second)
+{
+    bool zero = model == 0 || second == 0;
+    printf("%-26s %-24s %10llu %10llu%s\n", what, which, (unsigned long long)model, (unsigned long long)second, zero ? "  ZERO" : "");
+    zeros += zero;
+}
+
+#define SHOW_BOTH(what, which, count) show_both(what, which, alarms_counts[ALARMS_MODEL].count, alarms_counts[ALARMS_SECOND].count)
+
+/* What the histories met in the answers of the two models. */
+static void show_alarms(void)
+{
+    static const char *const names[HISTORY_CLAIMS] = {
+        "status read", "spells", "alert line", "alert response", "refused event", "code 0 or not",
+    };
+    printf("%-51s %10s %10s\n", "by the history, in the answers of", "the model", "the second");
+    for (int claim = 0; claim < HISTORY_CLAIMS; claim++)
+        SHOW_BOTH("claim checked", names[claim], claims[claim]);
+    for (int flag = 0; flag < HISTORY_FLAGS; flag++)
+        SHOW_BOTH("spell opened", flags[flag], spells[flag]);
+    for (int flag = 0; flag < HISTORY_FLAGS; flag++)
+        SHOW_BOTH("clearing read showed 1", flags[flag], cleared[flag]);
+    for (int flag = 0; flag < HISTORY_FLAGS; flag++)
+        SHOW_BOTH("read, fault still there", flags[flag], still[flag]);
+    SHOW_BOTH("latch set", "by an open diode", by_open);
+    SHOW_BOTH("latch set", "by the run count", by_run);
+    SHOW_BOTH("latch set", "in standby", by_standby);
+    SHOW_BOTH("latch cleared", "", latch_cleared);
+    SHOW_BOTH("alert response", "answered", answered);
+    SHOW_BOTH("alert response", "refused", refused);
+    SHOW_BOTH("reset in the middle", "", resets);
+    SHOW_BOTH("reset in the middle", "flag or latch standing", resets_standing);
+}
+
 unsigned counts_show(void)
 {
     static const char *const addresses[ADDRESSES] = {"76", "77", "0", "12", "75", "78", "-1", "large"};
@@ -81,6 +118,7 @@ unsigned counts_show(void)
     static const char *const reports[REPORTS] = {"0", "15", "17", "16"};
     zeros = 0;
     show_seen(&second_seen_counts);
+    show_alarms();
     SHOW_EACH("address", addresses, counted.address);
     SHOW_EACH("output room", rooms, counted.room);
     SHOW_EACH("report length", reports, counted.report);

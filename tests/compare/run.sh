@@ -15,5 +15,6 @@ mkdir -p "$built"
 at=tests/compare
 "${x86_cc[@]}" "${warnings[@]}" -O2 -o "$built/model" "$at"/{model,call}.c "$x86_library"
 gcc "${warnings[@]}" "${sanitizers[@]}" -Isecond -o "$built/driver" \
-    "$at"/{driver,recorded,large,generated,generate,damage,counts,compare,call,pipes,trace}.c second/{second,second_replay}.c
+    "$at"/{driver,recorded,large,generated,generate,damage,counts,compare,alarms,call,pipes,trace}.c \
+    second/{second,second_replay,second_history}.c
 "$built/driver" "$@" tests/traces "${x86_run[@]}" "$built/model"
