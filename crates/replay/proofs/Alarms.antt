@@ -9,7 +9,7 @@ use Rattle.rules.specs.PowerOn.{madeOf}
 use Rattle.rules.specs.Sound.{after}
 use Rattle.rules.specs.Trial.{Four, lastFrom}
 use Rattle.rules.proofs.Alarm.{after-one, flags-stand, latch-stands, spells-count}
-use Rattle.rules.proofs.Shown.{reads-show}
+use Rattle.rules.proofs.Shown.{line-shown, reads-show}
 use Rattle.replay.specs.Play.{textOf}
 use Rattle.replay.specs.Consumed.{answersFrom, textsOf}
 use Rattle.replay.specs.Alarms.{ReplayFlags, ReplayLatch, ReplayShows, ReplaySpells, eventsAt}
@@ -37,8 +37,9 @@ split (e ∷ es) more s =
 
 pub replay-shows : ReplayShows
 unfolding answersFrom textsOf
-replay-shows address made trace room earlier r later events status =
+replay-shows address made trace room earlier e later events =
     record {
-      text = replay-told (madeOf address .state) trace room .text ∙ ap (λ (es : List Four). textsOf (answersFrom (madeOf address .state) es)) events ∙ split earlier (r ∷ later) (madeOf address .state);
-      bits = λ f. reads-show address made earlier r status f;
+      text = replay-told (madeOf address .state) trace room .text ∙ ap (λ (es : List Four). textsOf (answersFrom (madeOf address .state) es)) events ∙ split earlier (e ∷ later) (madeOf address .state);
+      line = line-shown address made earlier e;
+      flags = λ status. reads-show address made earlier e status .1;
     }

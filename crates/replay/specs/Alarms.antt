@@ -2,11 +2,11 @@
 -- proofs/Alarms.antt. Assumes nothing.
 use Prim.Native.Nat.{ℕ, _+_}
 use mathlib.Core.Path.{_≡_}
-use mathlib.Core.Bool.{true}
-use mathlib.Core.List.{List, _∷_, _++_}
+use mathlib.Core.Bool.{true, not, _&&_}
+use mathlib.Core.List.{List, [], _∷_, _++_}
 use lib.IntN.{ℤ}
 use Rattle.rules.specs.declared.state.State.{State}
-use Rattle.rules.specs.Alarm.{Flag, History, answerFor, closed, flagAt, historyOf, isStatusEvent, latched, opened, placeOf, stands, stateOf}
+use Rattle.rules.specs.Alarm.{Flag, History, answerFor, flagAt, historyOf, historyThen, isStatusEvent, latched, lineFree, placeOf, readsThatClosed, spellsOpened, stands, stateOf, stateThen, viewOf}
 use Rattle.rules.specs.Bits.{bit, weight}
 use Rattle.rules.specs.PowerOn.{madeOf}
 use Rattle.rules.specs.Trial.{Four}
@@ -33,7 +33,7 @@ ReplayFlags =
 abbrev pub ReplaySpells : Type 0
 ReplaySpells =
     (address : ℤ) → madeOf address .code ≡ 0 → (trace : List ℕ) (room : ℕ) (f : Flag)
-    → opened f (historyAt address trace room) ≡ closed f (historyAt address trace room) + weight (stands f (historyAt address trace room)) 1
+    → spellsOpened f (historyAt address trace room) ≡ readsThatClosed f (historyAt address trace room) + weight (stands f (historyAt address trace room)) 1
 
 -- "The ALERT latch stands exactly if something that sets it came after the last alert response answered with all five flags 0"
 abbrev pub ReplayLatch : Type 0
@@ -41,14 +41,14 @@ ReplayLatch =
     (address : ℤ) → madeOf address .code ≡ 0 → (trace : List ℕ) (room : ℕ)
     → runAt address trace room .state .latch ≡ latched (historyAt address trace room)
 
--- a status read among the events: its answer stands in the output behind the answers before it, and the reply in it has each flag as the
--- history up to it has
-pub record StatusShown (address : ℤ) (trace : List ℕ) (room : ℕ) (earlier : List Four) (r : Four) (later : List Four) : Type 0 where
-  pub text : runAt address trace room .text ≡ textsOf (answersFrom (madeOf address .state) earlier) ++ (textOf (answerFor (stateOf address earlier) r) ++ textsOf (answersFrom (answerFor (stateOf address earlier) r .state) later))
-  pub bits : (f : Flag) → bit (placeOf f) (answerFor (stateOf address earlier) r .reply) ≡ stands f (historyOf address earlier)
+-- one of the events: its answer stands in the output behind the answers before it, with the ALERT line that the history has after it; and if it is a
+-- status read, the reply has each flag as the history before it has
+pub record AnswerShown (address : ℤ) (trace : List ℕ) (room : ℕ) (earlier : List Four) (e : Four) (later : List Four) : Type 0 where
+  pub text : runAt address trace room .text ≡ textsOf (answersFrom (madeOf address .state) earlier) ++ (textOf (answerFor (stateOf address earlier) e) ++ textsOf (answersFrom (answerFor (stateOf address earlier) e .state) later))
+  pub line : answerFor (stateOf address earlier) e .alert ≡ not (latched (historyThen address earlier e []) && lineFree (viewOf (stateThen address earlier e [])))
+  pub flags : isStatusEvent (stateOf address earlier) e ≡ true → (f : Flag) → bit (placeOf f) (answerFor (stateOf address earlier) e .reply) ≡ stands f (historyOf address earlier)
 
 abbrev pub ReplayShows : Type 0
 ReplayShows =
-    (address : ℤ) → madeOf address .code ≡ 0 → (trace : List ℕ) (room : ℕ) (earlier : List Four) (r : Four) (later : List Four)
-    → eventsAt address trace room ≡ earlier ++ (r ∷ later) → isStatusEvent (stateOf address earlier) r ≡ true
-    → StatusShown address trace room earlier r later
+    (address : ℤ) → madeOf address .code ≡ 0 → (trace : List ℕ) (room : ℕ) (earlier : List Four) (e : Four) (later : List Four)
+    → eventsAt address trace room ≡ earlier ++ (e ∷ later) → AnswerShown address trace room earlier e later

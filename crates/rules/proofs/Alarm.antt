@@ -34,7 +34,7 @@ use Rattle.rules.specs.Runs.{neededOf, ones}
 use Rattle.rules.specs.Status.{afterStatus, anyFlag, shownMarks, shownOf, statusOf}
 use Rattle.rules.specs.Step.{answerOf, applyOf, checkedOf, done, endOf, onBus, refused, responded, respondOf, responseOf, silent, startOf, stepOf}
 use Rattle.rules.specs.Lines.{alertLow}
-use Rattle.rules.specs.Configuration.{standby}
+use Rattle.rules.specs.Configuration.{choosesTherm2, masked, standby}
 use Rattle.rules.specs.Keeps.{trimOf}
 use Rattle.rules.specs.Event.{checkOf}
 use Rattle.rules.specs.PowerOn.{isAddress, madeAt, madeOf, noState, powerOn}
@@ -46,11 +46,11 @@ use Rattle.rules.specs.Conversion.{converted, convertedOf}
 use Rattle.rules.specs.Registers.{afterRead, readAtPointer, readingOf, replyOf, withStored}
 use Rattle.rules.specs.Setters.{withBusy, withConfig, withLatch, withPointer, withSensors}
 use Rattle.rules.specs.Write.{bothRecompared, comparedIf, latchedByFaults, oneShot, standbyCompared, stoppedIf, stored, writeCompares, written, writtenTo}
-use Rattle.rules.specs.Alarm.{Deed, Finding, Flag, FlagsStand, Happened, History, LatchStands, Side, SpellsCount, View, answerFor, beyond, clears, closed, comparesAt, converted as ever, deedIf, finds, findingOf, findsLimit, flagAt, flags, historyFrom, historyOf, inARow, isFault, isLow, isStatusRead, latched, latest, needs, noted, opened, orElse, outcome, placeOf, runs, stands, stateOf, told, viewOf, writeDeed}
+use Rattle.rules.specs.Alarm.{Deed, Finding, Flag, FlagsStand, Happened, History, LatchStands, Side, SpellsCount, View, answerFor, beyond, clears, readsThatClosed, comparesAt, everConverted as ever, deedIf, finds, findingOf, findsLimit, flagAt, fiveFlags, historyFrom, historyOf, inARow, isFault, isStatusRead, latched, latest, lineFree, needs, withEvent, spellsOpened, orElse, outcome, placeOf, running, stands, stateOf, withStep, viewOf, writeDeed}
 use Rattle.rules.specs.Alarm.Side.{Above, Below}
-use Rattle.rules.specs.Alarm.Flag.{Limit, Open}
+use Rattle.rules.specs.Alarm.Flag.{Limit, OpenDiode}
 use Rattle.rules.specs.Alarm.Finding.{MadeNone, FoundNothing, FoundFault}
-use Rattle.rules.specs.Alarm.Deed.{Idle, Began, Broke, Measured, Compared, StatusRead, Asked}
+use Rattle.rules.specs.Alarm.Deed.{Idle, Began, CutOff, Measured, Compared, StatusRead, Asked}
 
 pub no : {A : Type 0} → _≡_ {A = Bool} false true → A
 no e = absurd (let z : _≡_ {A = ℕ} 0 1 = cc in omega arith)
@@ -61,18 +61,18 @@ no e = absurd (let z : _≡_ {A = ℕ} 0 1 = cc in omega arith)
 pub record Holds (f : Flag) (l : Latched) (h : History) : Type 0 where
   pub flag : l .flag ≡ stands f h
   pub found : l .found ≡ isFault (latest f h)
-  pub spells : opened f h ≡ closed f h + weight (stands f h) 1
+  pub spells : spellsOpened f h ≡ readsThatClosed f h + weight (stands f h) 1
 
 module _ {f : Flag} {l : Latched} {h : History} (g : Holds f l h) (x : Happened) where
   -- an event that neither compares nor reads the status
   quiet : findingOf f x ≡ MadeNone → isStatusRead (x .deed) ≡ false → Holds f l (x ∷ h)
-  unfolding stands latest opened closed
+  unfolding stands latest spellsOpened readsThatClosed
   quiet none unread =
       record { flag = rw (none, unread) (g .flag); found = rw none (g .found); spells = rw (none, unread) (omega (arith, g .spells)) }
 
   -- one that compares
   compared : (fault : Bool) → findingOf f x ≡ outcome fault → isStatusRead (x .deed) ≡ false → Holds f (verdictOf l fault) (x ∷ h)
-  unfolding stands latest opened closed
+  unfolding stands latest spellsOpened readsThatClosed
   compared true made unread =
       record { flag = rw (made, unread) (or-true (l .flag)); found = rw made; spells = rw (made, unread) (one (stands f h) (g .spells)) }
     where
@@ -80,7 +80,7 @@ module _ {f : Flag} {l : Latched} {h : History} (g : Holds f l h) (x : Happened)
       or-true true = refl
       or-true false = refl
 
-      one : (b : Bool) → opened f h ≡ closed f h + weight b 1 → weight (not b) 1 + opened f h ≡ 0 + closed f h + 1
+      one : (b : Bool) → spellsOpened f h ≡ readsThatClosed f h + weight b 1 → weight (not b) 1 + spellsOpened f h ≡ 0 + readsThatClosed f h + 1
       one true e = omega (arith, e)
       one false e = omega (arith, e)
   compared false made unread =
@@ -92,7 +92,7 @@ module _ {f : Flag} {l : Latched} {h : History} (g : Holds f l h) (x : Happened)
 
   -- a status read that showed the flag
   read : findingOf f x ≡ MadeNone → isStatusRead (x .deed) ≡ true → bit (placeOf f) (x .reply) ≡ l .flag → Holds f (shownOf l) (x ∷ h)
-  unfolding stands latest opened closed
+  unfolding stands latest spellsOpened readsThatClosed
   read none reads shown =
       record {
         flag = rw (none, reads) (by (isFault (latest f h)) (rw (g .flag, g .found)));
@@ -112,7 +112,7 @@ module _ {f : Flag} {l : Latched} {h : History} (g : Holds f l h) (x : Happened)
           and-false true = refl
           and-false false = refl
 
-      count : (t b : Bool) → bit (placeOf f) (x .reply) ≡ b → opened f h ≡ closed f h + weight b 1 → 0 + opened f h ≡ weight (not t && bit (placeOf f) (x .reply)) 1 + closed f h + weight (cond (not t) false b) 1
+      count : (t b : Bool) → bit (placeOf f) (x .reply) ≡ b → spellsOpened f h ≡ readsThatClosed f h + weight b 1 → 0 + spellsOpened f h ≡ weight (not t && bit (placeOf f) (x .reply)) 1 + readsThatClosed f h + weight (cond (not t) false b) 1
       count true b e n = omega (arith, n)
       count false true e n = rw e (omega (arith, n))
       count false false e n = rw e (omega (arith, n))
@@ -133,7 +133,7 @@ pub record Rest (local remote : Bool) (count : ℕ) (latch : Bool) (l r : Marks)
   pub local-low : Holds (Limit Local Below) (l .low) h
   pub remote-high : Holds (Limit Remote Above) (r .high) h
   pub remote-low : Holds (Limit Remote Below) (r .low) h
-  pub broken : Holds Open (r .diode) h
+  pub broken : Holds OpenDiode (r .diode) h
   pub plain : l .diode .flag ≡ false
 
 abbrev pub RestOf : State → History → Type 0
@@ -141,7 +141,7 @@ RestOf s h =
     Rest (s .local .converted) (s .remote .converted) (s .runs) (s .latch) (s .local .marks) (s .remote .marks) h
 
 pub record Agrees (s : State) (h : History) : Type 0 where
-  pub busy : s .busy ≡ runs h
+  pub busy : s .busy ≡ running h
   pub rest : RestOf s h
 
 abbrev pub event : Deed → View → ℕ → Happened
@@ -151,35 +151,35 @@ event d v reply = record { deed = d; seen = v; reply = reply }
 abbrev calm : Deed → Bool
 calm Idle = true
 calm Began = true
-calm Broke = true
+calm CutOff = true
 calm (Measured broken) = false
 calm Compared = false
 calm StatusRead = false
-calm Asked = false
+calm (Asked free) = false
 
 module _ {lc rc : Bool} {n : ℕ} {latch : Bool} {l r : Marks} {h : History} (g : Rest lc rc n latch l r h) (v : View) (reply : ℕ) where
   rest-calm : (d : Deed) → calm d ≡ true → Rest lc rc n latch l r (event d v reply ∷ h)
   unfolding ever inARow latched
   rest-calm Idle e = record { local-conv = g .local-conv; remote-conv = g .remote-conv; counted = g .counted; latching = g .latching; local-high = quiet (g .local-high) (event Idle v reply) refl refl; local-low = quiet (g .local-low) (event Idle v reply) refl refl; remote-high = quiet (g .remote-high) (event Idle v reply) refl refl; remote-low = quiet (g .remote-low) (event Idle v reply) refl refl; broken = quiet (g .broken) (event Idle v reply) refl refl; plain = g .plain }
   rest-calm Began e = record { local-conv = g .local-conv; remote-conv = g .remote-conv; counted = g .counted; latching = g .latching; local-high = quiet (g .local-high) (event Began v reply) refl refl; local-low = quiet (g .local-low) (event Began v reply) refl refl; remote-high = quiet (g .remote-high) (event Began v reply) refl refl; remote-low = quiet (g .remote-low) (event Began v reply) refl refl; broken = quiet (g .broken) (event Began v reply) refl refl; plain = g .plain }
-  rest-calm Broke e = record { local-conv = g .local-conv; remote-conv = g .remote-conv; counted = g .counted; latching = g .latching; local-high = quiet (g .local-high) (event Broke v reply) refl refl; local-low = quiet (g .local-low) (event Broke v reply) refl refl; remote-high = quiet (g .remote-high) (event Broke v reply) refl refl; remote-low = quiet (g .remote-low) (event Broke v reply) refl refl; broken = quiet (g .broken) (event Broke v reply) refl refl; plain = g .plain }
+  rest-calm CutOff e = record { local-conv = g .local-conv; remote-conv = g .remote-conv; counted = g .counted; latching = g .latching; local-high = quiet (g .local-high) (event CutOff v reply) refl refl; local-low = quiet (g .local-low) (event CutOff v reply) refl refl; remote-high = quiet (g .remote-high) (event CutOff v reply) refl refl; remote-low = quiet (g .remote-low) (event CutOff v reply) refl refl; broken = quiet (g .broken) (event CutOff v reply) refl refl; plain = g .plain }
   rest-calm (Measured b) e = no e
   rest-calm Compared e = no e
   rest-calm StatusRead e = no e
-  rest-calm Asked e = no e
+  rest-calm (Asked free) e = no e
 
 -- nothing of it changed
 idle : (s : State) (h : History) (v : View) (reply : ℕ) → Agrees s h → Agrees s (event Idle v reply ∷ h)
-unfolding runs
+unfolding running
 idle s h v reply g = record { busy = g .busy; rest = rest-calm (g .rest) v reply Idle refl }
 
 began : (s : State) (h : History) (v : View) (reply : ℕ) → Agrees s h → Agrees (withBusy s true) (event Began v reply ∷ h)
-unfolding runs
+unfolding running
 began s h v reply g = record { busy = refl; rest = rest-calm (g .rest) v reply Began refl }
 
-broke : (s : State) (h : History) (v : View) (reply : ℕ) → Agrees s h → Agrees (withBusy s false) (event Broke v reply ∷ h)
-unfolding runs
-broke s h v reply g = record { busy = refl; rest = rest-calm (g .rest) v reply Broke refl }
+broke : (s : State) (h : History) (v : View) (reply : ℕ) → Agrees s h → Agrees (withBusy s false) (event CutOff v reply ∷ h)
+unfolding running
+broke s h v reply g = record { busy = refl; rest = rest-calm (g .rest) v reply CutOff refl }
 
 -- ---- Truth tables ----
 
@@ -451,17 +451,27 @@ five-flags false false false true e = refl
 five-flags false false false false true = refl
 five-flags false false false false false = refl
 
-any-stands : (s : State) (h : History) → RestOf s h → anyFlag s ≡ any (map (λ (f : Flag). stands f h) flags)
+any-stands : (s : State) (h : History) → RestOf s h → anyFlag s ≡ any (map (λ (f : Flag). stands f h) fiveFlags)
 any-stands s h g =
-    rw (g .plain, g .local-high .flag, g .local-low .flag, g .remote-high .flag, g .remote-low .flag, g .broken .flag) (five-flags (stands (Limit Local Above) h) (stands (Limit Local Below) h) (stands (Limit Remote Above) h) (stands (Limit Remote Below) h) (stands Open h))
+    rw (g .plain, g .local-high .flag, g .local-low .flag, g .remote-high .flag, g .remote-low .flag, g .broken .flag) (five-flags (stands (Limit Local Above) h) (stands (Limit Local Below) h) (stands (Limit Remote Above) h) (stands (Limit Remote Below) h) (stands OpenDiode h))
 
 -- an alert response: the latch is cleared where the line is low and no flag stands
-respond-noted : (s : State) (h : History) → Agrees s h → Noted h (respondOf s) Asked
-unfolding respondOf runs ever inARow latched
+pub free-line : (l m t : Bool) → l && not m && not t ≡ l && (not m && not t)
+free-line true m t = refl
+free-line false m t = refl
+
+respond-noted : (s : State) (h : History) → Agrees s h → Noted h (respondOf s) (Asked (lineFree (viewOf s)))
+unfolding respondOf running ever inARow latched
 respond-noted s h g = by (alertLow s) refl
   where
-    rest-asked : (latch : Bool) (v : View) (reply : ℕ) → latch ≡ latched (event Asked v reply ∷ h) → Rest (s .local .converted) (s .remote .converted) (s .runs) latch (s .local .marks) (s .remote .marks) (event Asked v reply ∷ h)
-    rest-asked latch v reply e = record { local-conv = g .rest .local-conv; remote-conv = g .rest .remote-conv; counted = g .rest .counted; latching = e; local-high = quiet (g .rest .local-high) (event Asked v reply) refl refl; local-low = quiet (g .rest .local-low) (event Asked v reply) refl refl; remote-high = quiet (g .rest .remote-high) (event Asked v reply) refl refl; remote-low = quiet (g .rest .remote-low) (event Asked v reply) refl refl; broken = quiet (g .rest .broken) (event Asked v reply) refl refl; plain = g .rest .plain }
+    free : Bool
+    free = lineFree (viewOf s)
+
+    rest-asked : (latch : Bool) (v : View) (reply : ℕ) → latch ≡ latched (event (Asked free) v reply ∷ h) → Rest (s .local .converted) (s .remote .converted) (s .runs) latch (s .local .marks) (s .remote .marks) (event (Asked free) v reply ∷ h)
+    rest-asked latch v reply e = record { local-conv = g .rest .local-conv; remote-conv = g .rest .remote-conv; counted = g .rest .counted; latching = e; local-high = quiet (g .rest .local-high) (event (Asked free) v reply) refl refl; local-low = quiet (g .rest .local-low) (event (Asked free) v reply) refl refl; remote-high = quiet (g .rest .remote-high) (event (Asked free) v reply) refl refl; remote-low = quiet (g .rest .remote-low) (event (Asked free) v reply) refl refl; broken = quiet (g .rest .broken) (event (Asked free) v reply) refl refl; plain = g .rest .plain }
+
+    low : alertLow s ≡ latched h && free
+    low = rw (← (g .rest .latching)) (free-line (s .latch) (masked (s .config)) (choosesTherm2 (s .config)))
 
     kept : (l a : Bool) → l && a ≡ cond (not a) false l
     kept true true = refl
@@ -469,15 +479,15 @@ respond-noted s h g = by (alertLow s) refl
     kept false true = refl
     kept false false = refl
 
-    by : (t : Bool) → alertLow s ≡ t → Noted h (cond t (answerOf 0 (responseOf (s .given .address)) (responded s)) (refused 3 s)) Asked
+    by : (t : Bool) → alertLow s ≡ t → Noted h (cond t (answerOf 0 (responseOf (s .given .address)) (responded s)) (refused 3 s)) (Asked free)
     by true e =
-        let low : isLow (latched h) (viewOf s) ≡ true = rw (← (g .rest .latching)) e in
-        record { busy = g .busy; rest = rest-asked _ _ _ (rw (low, any-stands s h (g .rest), g .rest .latching) (kept (latched h) (any (map (λ (f : Flag). stands f h) flags)))) }
+        let is : latched h && free ≡ true = sym low ∙ e in
+        record { busy = g .busy; rest = rest-asked _ _ _ (rw (is, any-stands s h (g .rest), g .rest .latching) (kept (latched h) (any (map (λ (f : Flag). stands f h) fiveFlags)))) }
     by false e =
-        let low : isLow (latched h) (viewOf s) ≡ false = rw (← (g .rest .latching)) e in
-        record { busy = g .busy; rest = rest-asked _ _ _ (rw low (g .rest .latching)) }
+        let is : latched h && free ≡ false = sym low ∙ e in
+        record { busy = g .busy; rest = rest-asked _ _ _ (rw is (g .rest .latching)) }
 
-start-noted : (s : State) (h : History) → Agrees s h → Noted h (startOf s) (deedIf (not (standby (s .config)) && not (runs h)) Began)
+start-noted : (s : State) (h : History) → Agrees s h → Noted h (startOf s) (deedIf (not (standby (s .config)) && not (running h)) Began)
 unfolding startOf
 start-noted s h g = rw (← (g .busy)) (by (standby (s .config)) (s .busy))
   where
@@ -487,7 +497,7 @@ start-noted s h g = rw (← (g .busy)) (by (standby (s .config)) (s .busy))
     by false false = began s h _ _ g
 
 at-source : (s : State) (h : History) (src : Source) → Agrees s h → Agrees (afterRead s src) (event (deedIf (isStatus src) StatusRead) (viewOf (afterRead s src)) (replyOf (readingOf s src)) ∷ h)
-unfolding afterStatus runs
+unfolding afterStatus running
 at-source s h (From r) g = idle s h _ _ g
 at-source s h (Value ch) g = idle s h _ _ g
 at-source s h (ValueFine ch) g = idle s h _ _ g
@@ -511,13 +521,13 @@ same-finds : (a b c d : Bool) → any ((a || b) ∷ (c || d) ∷ []) ≡ any (is
 same-finds a b c d = rw (outcome-fault a, outcome-fault b, outcome-fault c, outcome-fault d) (four-limits a b c d)
 
 converted-agrees : (s : State) (h : History) (l r : ℤ) (cut : Bool) → Agrees s h → Agrees (converted s l r cut) (event (Measured cut) (viewOf (converted s l r cut)) 0 ∷ h)
-unfolding converted convertedOf marksOf runs
+unfolding converted convertedOf marksOf running
 converted-agrees s h l r cut g =
     let t = converted s l r cut in
     let v = viewOf t in
     record { busy = refl; rest = rest-measured (g .rest) v 0 cut (t .local .marks .therm) (t .remote .marks .therm) (any (faultsOf t)) (same-finds (beyond v Local Above) (beyond v Local Below) (beyond v Remote Above) (beyond v Remote Below)) }
 
-end-noted : (s : State) (h : History) (l r : ℤ) (cut : Bool) → Agrees s h → Noted h (endOf s l r cut) (deedIf (runs h) (Measured cut))
+end-noted : (s : State) (h : History) (l r : ℤ) (cut : Bool) → Agrees s h → Noted h (endOf s l r cut) (deedIf (running h) (Measured cut))
 unfolding endOf
 end-noted s h l r cut g = rw (← (g .busy)) (by (s .busy))
   where
@@ -539,7 +549,7 @@ none-compared : (s : State) → s .local .converted ≡ false → s .remote .con
 none-compared s p q = rw (p, q)
 
 all-agrees : (s : State) (h : History) → Agrees s h → s .local .converted ≡ true → s .remote .converted ≡ true → Agrees (latchedByFaults (allCompared s)) (event Compared (viewOf (latchedByFaults (allCompared s))) 0 ∷ h)
-unfolding marksOf runs
+unfolding marksOf running
 all-agrees s h g p q =
     let t = latchedByFaults (allCompared s) in
     let v = viewOf t in
@@ -553,7 +563,7 @@ none-found s p q = rw (p, q) (by (s .latch))
     by false = refl
 
 none-agrees : (s : State) (h : History) → Agrees s h → s .local .converted ≡ false → s .remote .converted ≡ false → Agrees (latchedByFaults s) (event Idle (viewOf (latchedByFaults s)) 0 ∷ h)
-unfolding runs
+unfolding running
 none-agrees s h g p q =
     let v = viewOf (latchedByFaults s) in
     record {
@@ -563,7 +573,7 @@ none-agrees s h g p q =
 
 -- in standby: the comparison, of every channel or, where none was converted, of none
 standby-agrees : (s : State) (h : History) → Agrees s h → Agrees (standbyCompared s) (event (deedIf (ever h) Compared) (viewOf (standbyCompared s)) 0 ∷ h)
-unfolding standbyCompared runs
+unfolding standbyCompared running
 standby-agrees s h g = by (ever h) (g .rest .local-conv) (g .rest .remote-conv)
   where
     by : (c : Bool) → s .local .converted ≡ c → s .remote .converted ≡ c → Agrees (latchedByFaults (bothRecompared s)) (event (deedIf c Compared) (viewOf (latchedByFaults (bothRecompared s))) 0 ∷ h)
@@ -611,7 +621,7 @@ config-noted : (h : History) (s u : State) (n : ℕ) → Agrees u h → false �
 config-noted h s u n g shot comp = by (not (standby (s .config)) && standby (u .config)) refl
   where
     by : (t : Bool) → not (standby (s .config)) && standby (u .config) ≡ t → Written h s n (cond t (withBusy u false) u)
-    by true e = as-deed h s (withBusy u false) n Broke (rw (← shot, e)) (broke u h _ _ g)
+    by true e = as-deed h s (withBusy u false) n CutOff (rw (← shot, e)) (broke u h _ _ g)
     by false e = as-deed h s u n Idle (rw (← shot, e, ← comp)) (idle u h _ _ g)
 
 target-noted : (h : History) (s : State) (n b : ℕ) (t : Target) → Agrees s h → isOneShot t ≡ eqb n 0x0f → comparesTo t ≡ comparesAt n → Written h s n (writtenTo (withPointer s n) t b)
@@ -633,7 +643,7 @@ target-noted h s n b OneShot g shot comp = by (standby (s .config)) (s .busy) re
     u : State
     u = withPointer s n
 
-    by : (x y : Bool) → standby (s .config) ≡ x → y ≡ runs h → Written h s n (cond (x && not y) (withBusy u true) u)
+    by : (x y : Bool) → standby (s .config) ≡ x → y ≡ running h → Written h s n (cond (x && not y) (withBusy u true) u)
     by true true e f = as-deed h s u n Idle (rw (← shot, e, ← f)) (idle u h _ _ (record { busy = g .busy; rest = g .rest }))
     by true false e f = as-deed h s (withBusy u true) n Began (rw (← shot, e, ← f)) (began u h _ _ (record { busy = g .busy; rest = g .rest }))
     by false y e f = as-deed h s u n Idle (rw (← shot, e)) (idle u h _ _ (record { busy = g .busy; rest = g .rest }))
@@ -645,15 +655,15 @@ target-noted h s n b Nowhere g shot comp =
 -- an answer to a checked event, and the history with it
 abbrev Goes : State → History → Checked → Type 0
 Goes s h k =
-    Agrees (checkedOf s k .state) (noted h (viewOf s) (viewOf (checkedOf s k .state)) (checkedOf s k .reply) k)
+    Agrees (checkedOf s k .state) (withEvent h (viewOf s) (viewOf (checkedOf s k .state)) (checkedOf s k .reply) k)
 
 none-yet : (f : Flag) (l : Latched) → l .flag ≡ false → l .found ≡ false → Holds f l []
-unfolding stands latest opened closed
+unfolding stands latest spellsOpened readsThatClosed
 none-yet f l e d = record { flag = e; found = d; spells = refl }
 
 powered : (g : Given) → Agrees (powerOn g) []
-unfolding runs ever inARow latched
-powered g = record { busy = refl; rest = record { local-conv = refl; remote-conv = refl; counted = refl; latching = refl; local-high = none-yet (Limit Local Above) _ refl refl; local-low = none-yet (Limit Local Below) _ refl refl; remote-high = none-yet (Limit Remote Above) _ refl refl; remote-low = none-yet (Limit Remote Below) _ refl refl; broken = none-yet Open _ refl refl; plain = refl } }
+unfolding running ever inARow latched
+powered g = record { busy = refl; rest = record { local-conv = refl; remote-conv = refl; counted = refl; latching = refl; local-high = none-yet (Limit Local Above) _ refl refl; local-low = none-yet (Limit Local Below) _ refl refl; remote-high = none-yet (Limit Remote Above) _ refl refl; remote-low = none-yet (Limit Remote Below) _ refl refl; broken = none-yet OpenDiode _ refl refl; plain = refl } }
 
 applied : (s : State) (h : History) (e : Event) → Agrees s h → Goes s h (Good e)
 unfolding applyOf written
@@ -678,7 +688,7 @@ goes : (s : State) (h : History) (k : Checked) → Agrees s h → Goes s h k
 goes s h (Good e) g = applied s h e g
 goes s h (Bad code) g = idle s h _ _ g
 
-pub one-more : (s : State) (h : History) (e : Four) → wellFormed s ≡ true → Agrees s h → Agrees (answerFor s e .state) (told h s e)
+pub one-more : (s : State) (h : History) (e : Four) → wellFormed s ≡ true → Agrees s h → Agrees (answerFor s e .state) (withStep h s e)
 unfolding stepOf
 one-more s h e w g = rw w (goes s h (checkOf (e .kind) (e .a) (e .b) (e .c)) g)
 
@@ -696,8 +706,8 @@ pub all-more : (es : List Four) (s : State) (h : History) → wellFormed s ≡ t
 unfolding historyFrom lastFrom
 all-more [] s h w g = g
 all-more (e ∷ es) s h w g =
-    subst (λ (t : State). Agrees t (historyFrom (told h s e) (answerFor s e .state) es)) (sym (after-one s e es))
-    (all-more es (answerFor s e .state) (told h s e) (steps-well-formed s (e .kind) (e .a) (e .b) (e .c) w) (one-more s h e w g))
+    subst (λ (t : State). Agrees t (historyFrom (withStep h s e) (answerFor s e .state) es)) (sym (after-one s e es))
+    (all-more es (answerFor s e .state) (withStep h s e) (steps-well-formed s (e .kind) (e .a) (e .b) (e .c) w) (one-more s h e w g))
 
 fresh : (address : ℤ) → madeOf address .code ≡ 0 → Agrees (madeOf address .state) []
 fresh (pos a) made = by (isAddress a) made
@@ -715,12 +725,12 @@ agrees address made es =
 
 -- ---- The claims ----
 
-pub holds : (s : State) (h : History) → RestOf s h → (f : Flag) → (flagAt s f ≡ stands f h) × (opened f h ≡ closed f h + weight (stands f h) 1)
+pub holds : (s : State) (h : History) → RestOf s h → (f : Flag) → (flagAt s f ≡ stands f h) × (spellsOpened f h ≡ readsThatClosed f h + weight (stands f h) 1)
 holds s h g (Limit Local Above) = (g .local-high .flag, g .local-high .spells)
 holds s h g (Limit Local Below) = (g .local-low .flag, g .local-low .spells)
 holds s h g (Limit Remote Above) = (g .remote-high .flag, g .remote-high .spells)
 holds s h g (Limit Remote Below) = (g .remote-low .flag, g .remote-low .spells)
-holds s h g Open = (g .broken .flag, g .broken .spells)
+holds s h g OpenDiode = (g .broken .flag, g .broken .spells)
 
 pub flags-stand : FlagsStand
 flags-stand address made es f = holds _ _ (agrees address made es .rest) f .0

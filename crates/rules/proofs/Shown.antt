@@ -39,12 +39,12 @@ use Rattle.rules.specs.Status.{afterStatus, statusOf}
 use Rattle.rules.specs.Step.{answerOf, applyOf, checkedOf, done, endOf, onBus, refused, responded, respondOf, responseOf, silent, startOf, stepOf}
 use Rattle.rules.specs.Trial.{Four, lastFrom}
 use Rattle.rules.specs.WellFormed.{wellFormed}
-use Rattle.rules.specs.Alarm.{AlertStaysLow, Deed, FaultsShown, Flag, Happened, History, NoneInvented, ReadsShow, ResetBeginsAnew, ResponsesAnswered, Side, StandbyLimitAlerts, StandbyLimitShown, View, answerFor, beyond, checkedDeed, checkedReads, clearsLatchNow, comparesAt, converted as ever, deedIf, diodeFinding, finds, findsLimit, findsNow, flagAt, formOf, highCommand, historyFrom, historyOf, historyThen, inARow, isAsked, isFault, isLow, isReset, isStatusEvent, isStatusRead, latched, limitFinding, needs, noted, outcome, placeOf, readsStatus, respond, runs, setBy, sets, setsNow, stands, stateOf, stateThen, told, uncleared, unread, viewOf, writeDeed}
-use Rattle.rules.specs.Alarm.Deed.{Idle, Began, Broke, Measured, Compared, StatusRead, Asked}
+use Rattle.rules.specs.Alarm.{AlertStaysLow, Deed, FaultsShown, Flag, Happened, History, LineShown, NoneInvented, ReadsShow, ResetBeginsAnew, ResponsesAnswered, Side, StandbyLimitAlerts, StandbyLimitShown, View, answerFor, beyond, checkedDeed, checkedReads, clearsLatchNow, comparesAt, everConverted as ever, deedIf, diodeFinding, finds, findsLimit, findsNow, flagAt, formOf, highCommand, historyFrom, historyOf, historyThen, inARow, isAnswered, isFault, isReset, isStatusEvent, isStatusRead, latched, limitFinding, lineFree, needs, withEvent, outcome, placeOf, readsStatus, respond, running, setBy, sets, setsNow, stands, stateOf, stateThen, withStep, uncleared, unread, viewOf, writeDeed}
+use Rattle.rules.specs.Alarm.Deed.{Idle, Began, CutOff, Measured, Compared, StatusRead, Asked}
 use Rattle.rules.proofs.Choice.{choice}
-use Rattle.rules.specs.Alarm.Flag.{Limit, Open}
+use Rattle.rules.specs.Alarm.Flag.{Limit, OpenDiode}
 use Rattle.rules.specs.Alarm.Side.{Above, Below}
-use Rattle.rules.proofs.Alarm.{Agrees, RestOf, Shown, agrees, all-more, holds, isStatus, no, one-more, reads, shown}
+use Rattle.rules.proofs.Alarm.{Agrees, RestOf, Shown, agrees, all-more, free-line, holds, isStatus, no, one-more, reads, shown}
 use Rattle.rules.proofs.WellFormed.{fresh-well-formed, left, right, steps-well-formed}
 use Rattle.rules.proofs.NeverSix.{after-well}
 
@@ -58,7 +58,7 @@ status-bit s (Limit Local Above) = shown s .six
 status-bit s (Limit Local Below) = shown s .five
 status-bit s (Limit Remote Above) = shown s .four
 status-bit s (Limit Remote Below) = shown s .three
-status-bit s Open = shown s .two
+status-bit s OpenDiode = shown s .two
 
 at-status : (s : State) (src : Source) → isStatus src ≡ true → replyOf (readingOf s src) ≡ statusOf s
 at-status s (From r) e = no e
@@ -75,6 +75,28 @@ module _ (s : State) where
   unfolding readAtPointer
   replied a t e =
       rw (left (eqb a (s .given .address)) (eqb (t .pointer) 0x02) e) (at-status t (sourceOf (t .pointer)) (reads (t .pointer) .status ∙ right (eqb a (s .given .address)) (eqb (t .pointer) 0x02) e))
+
+  done-code : (a : ℕ) (t : State) → eqb a (s .given .address) && eqb (t .pointer) 0x02 ≡ true → cond (eqb a (s .given .address)) (done (readAtPointer t)) (refused 3 s) .code ≡ 0
+  done-code a t e = rw (left (eqb a (s .given .address)) (eqb (t .pointer) 0x02) e)
+
+  event-code : (e : Event) → readsStatus (viewOf s) e ≡ true → applyOf s e .code ≡ 0
+  unfolding applyOf
+  event-code Reset h = no h
+  event-code (Send a n) h = no h
+  event-code (Write a n b) h = no h
+  event-code (Read a n) h = done-code a (withPointer s n) h
+  event-code (Receive a) h = done-code a s h
+  event-code Respond h = no h
+  event-code Start h = no h
+  event-code (End l r broken) h = no h
+
+  form-code : (k : Checked) → checkedReads (viewOf s) k ≡ true → checkedOf s k .code ≡ 0
+  form-code (Good e) h = event-code e h
+  form-code (Bad code) h = no h
+
+  status-code : (e : Four) → wellFormed s ≡ true → isStatusEvent s e ≡ true → answerFor s e .code ≡ 0
+  unfolding stepOf
+  status-code e w h = rw w (form-code (formOf e) h)
 
   event-reply : (e : Event) → readsStatus (viewOf s) e ≡ true → applyOf s e .reply ≡ statusOf s
   unfolding applyOf statusOf
@@ -100,15 +122,15 @@ read-shows s h w g e status f =
     ap (bit (placeOf f)) (status-reply s e w status) ∙ status-bit s f ∙ holds s h (g .rest) f .0
 
 pub reads-show : ReadsShow
-reads-show address made es e status f =
-    read-shows (stateOf address es) (historyOf address es) (well address made es) (agrees address made es) e status f
+reads-show address made es e status =
+    (status-code (stateOf address es) e (well address made es) status, λ f. read-shows (stateOf address es) (historyOf address es) (well address made es) (agrees address made es) e status f)
 
 pub none-invented : NoneInvented
-none-invented address made es r f status quiet = reads-show address made es r status f ∙ quiet
+none-invented address made es r f status quiet = reads-show address made es r status .1 f ∙ quiet
 
-answered : (s : State) (latch : Bool) → wellFormed s ≡ true → s .latch ≡ latch → answerFor s respond .code ≡ cond (isLow latch (viewOf s)) 0 3
+answered : (s : State) (latch : Bool) → wellFormed s ≡ true → s .latch ≡ latch → answerFor s respond .code ≡ cond (latch && lineFree (viewOf s)) 0 3
 unfolding stepOf applyOf respondOf
-answered s latch w e = rw (w, ← e) (by (alertLow s))
+answered s latch w e = rw (w, ← e, ← free-line (s .latch) (masked (s .config)) (choosesTherm2 (s .config))) (by (alertLow s))
   where
     by : (t : Bool) → cond t (answerOf 0 (responseOf (s .given .address)) (responded s)) (refused 3 s) .code ≡ cond t 0 3
     by true = refl
@@ -128,33 +150,33 @@ or-true false = refl
 limit-unread : (d : Deed) (b : Bool) → isFault (limitFinding d b) ≡ true → isStatusRead d ≡ false
 limit-unread Idle b e = no e
 limit-unread Began b e = no e
-limit-unread Broke b e = no e
+limit-unread CutOff b e = no e
 limit-unread (Measured cut) b e = refl
 limit-unread Compared b e = refl
 limit-unread StatusRead b e = no e
-limit-unread Asked b e = no e
+limit-unread (Asked free) b e = no e
 
 diode-unread : (d : Deed) → isFault (diodeFinding d) ≡ true → isStatusRead d ≡ false
 diode-unread Idle e = no e
 diode-unread Began e = no e
-diode-unread Broke e = no e
+diode-unread CutOff e = no e
 diode-unread (Measured cut) e = refl
 diode-unread Compared e = no e
 diode-unread StatusRead e = no e
-diode-unread Asked e = no e
+diode-unread (Asked free) e = no e
 
 finding-unread : (f : Flag) (x : Happened) → finds f x ≡ true → isStatusRead (x .deed) ≡ false
 finding-unread (Limit ch side) x e = limit-unread (x .deed) (beyond (x .seen) ch side) e
-finding-unread Open x e = diode-unread (x .deed) e
+finding-unread OpenDiode x e = diode-unread (x .deed) e
 
-set-unasked : (d : Deed) (needed : ℕ) (found : Bool) (row : ℕ) → setBy d needed found row ≡ true → isAsked d ≡ false
-set-unasked Idle needed found row e = no e
-set-unasked Began needed found row e = no e
-set-unasked Broke needed found row e = no e
-set-unasked (Measured cut) needed found row e = refl
-set-unasked Compared needed found row e = refl
-set-unasked StatusRead needed found row e = no e
-set-unasked Asked needed found row e = no e
+set-unasked : (d : Deed) (needed : ℕ) (found : Bool) (row : ℕ) (latch : Bool) → setBy d needed found row ≡ true → isAnswered d latch ≡ false
+set-unasked Idle needed found row latch e = no e
+set-unasked Began needed found row latch e = no e
+set-unasked CutOff needed found row latch e = no e
+set-unasked (Measured cut) needed found row latch e = refl
+set-unasked Compared needed found row latch e = refl
+set-unasked StatusRead needed found row latch e = no e
+set-unasked (Asked free) needed found row latch e = no e
 
 found-stands : (f : Flag) (h : History) → findsNow f h ≡ true → stands f h ≡ true
 unfolding stands
@@ -165,7 +187,7 @@ set-latches : (h : History) → setsNow h ≡ true → latched h ≡ true
 unfolding latched
 set-latches [] e = no e
 set-latches (x ∷ h) e =
-    rw (set-unasked (x .deed) (needs (x .seen .consecutive)) (findsLimit x) (inARow (x ∷ h)) e, e)
+    rw (set-unasked (x .deed) (needs (x .seen .consecutive)) (findsLimit x) (inARow (x ∷ h)) (latched h) e, e)
 
 -- an event's deed is a status read exactly if the event is one
 if-read : (t : Bool) → isStatusRead (deedIf t StatusRead) ≡ t
@@ -178,8 +200,8 @@ if-other false d e = refl
 
 write-unread : (h : History) (before v : View) (n : ℕ) → isStatusRead (writeDeed h before v n) ≡ false
 write-unread h before v n =
-    choice (λ (d : Deed). isStatusRead d ≡ false) (eqb n 0x0f) _ _ (if-other (standby (before .config) && not (runs h)) Began refl)
-    (choice (λ (d : Deed). isStatusRead d ≡ false) (not (standby (before .config)) && standby (v .config)) Broke _ refl
+    choice (λ (d : Deed). isStatusRead d ≡ false) (eqb n 0x0f) _ _ (if-other (standby (before .config) && not (running h)) Began refl)
+    (choice (λ (d : Deed). isStatusRead d ≡ false) (not (standby (before .config)) && standby (v .config)) CutOff _ refl
     (if-other (comparesAt n && standby (before .config) && ever h) Compared refl))
 
 deed-reads : (h : History) (before v : View) (k : Checked) → isStatusRead (checkedDeed h before v k) ≡ checkedReads before k
@@ -190,8 +212,8 @@ deed-reads h before v (Good (Write a n b)) =
 deed-reads h before v (Good (Read a n)) = if-read (eqb a (before .address) && eqb n 0x02)
 deed-reads h before v (Good (Receive a)) = if-read (eqb a (before .address) && eqb (before .pointer) 0x02)
 deed-reads h before v (Good Respond) = refl
-deed-reads h before v (Good Start) = if-other (not (standby (before .config)) && not (runs h)) Began refl
-deed-reads h before v (Good (End l r cut)) = if-other (runs h) (Measured cut) refl
+deed-reads h before v (Good Start) = if-other (not (standby (before .config)) && not (running h)) Began refl
+deed-reads h before v (Good (End l r cut)) = if-other (running h) (Measured cut) refl
 deed-reads h before v (Bad code) = refl
 
 not-true : (b : Bool) → not b ≡ true → b ≡ false
@@ -211,7 +233,7 @@ still-stands f (x ∷ later) s h e u =
     let both = left (not (isReset (formOf x)) && not (isStatusEvent s x)) (unread (answerFor s x .state) later) u in
     let kept = not-true (isReset (formOf x)) (left (not (isReset (formOf x))) (not (isStatusEvent s x)) both) in
     let deaf = not-true (isStatusEvent s x) (right (not (isReset (formOf x))) (not (isStatusEvent s x)) both) in
-    still-stands f later (answerFor s x .state) (told h s x) (rw (kept, deed-reads h (viewOf s) (viewOf (answerFor s x .state)) (formOf x), deaf, e) (or-true (finds f (happened h s x)))) go
+    still-stands f later (answerFor s x .state) (withStep h s x) (rw (kept, deed-reads h (viewOf s) (viewOf (answerFor s x .state)) (formOf x), deaf, e) (or-true (finds f (happened h s x)))) go
 
 latched-on : (x : Happened) (h : History) → latched h ≡ true → clearsLatchNow (x ∷ h) ≡ false → latched (x ∷ h) ≡ true
 unfolding latched
@@ -221,11 +243,11 @@ still-latched : (later : List Four) (s : State) (h : History) → latched h ≡ 
 unfolding historyFrom uncleared
 still-latched [] s h e u = e
 still-latched (x ∷ later) s h e u =
-    let go = right (not (isReset (formOf x)) && not (clearsLatchNow (told h s x))) (uncleared (told h s x) (answerFor s x .state) later) u in
-    let both = left (not (isReset (formOf x)) && not (clearsLatchNow (told h s x))) (uncleared (told h s x) (answerFor s x .state) later) u in
-    let kept = not-true (isReset (formOf x)) (left (not (isReset (formOf x))) (not (clearsLatchNow (told h s x))) both) in
-    let held = not-true (clearsLatchNow (told h s x)) (right (not (isReset (formOf x))) (not (clearsLatchNow (told h s x))) both) in
-    still-latched later (answerFor s x .state) (told h s x) (one (isReset (formOf x)) kept held) go
+    let go = right (not (isReset (formOf x)) && not (clearsLatchNow (withStep h s x))) (uncleared (withStep h s x) (answerFor s x .state) later) u in
+    let both = left (not (isReset (formOf x)) && not (clearsLatchNow (withStep h s x))) (uncleared (withStep h s x) (answerFor s x .state) later) u in
+    let kept = not-true (isReset (formOf x)) (left (not (isReset (formOf x))) (not (clearsLatchNow (withStep h s x))) both) in
+    let held = not-true (clearsLatchNow (withStep h s x)) (right (not (isReset (formOf x))) (not (clearsLatchNow (withStep h s x))) both) in
+    still-latched later (answerFor s x .state) (withStep h s x) (one (isReset (formOf x)) kept held) go
   where
     one : (t : Bool) → t ≡ false → clearsLatchNow (cond t [] (happened h s x ∷ h)) ≡ false → latched (cond t [] (happened h s x ∷ h)) ≡ true
     one true p q = no (sym p)
@@ -241,21 +263,24 @@ module _ (address : ℤ) (made : madeOf address .code ≡ 0) (es : List Four) (e
 
   then-agrees : (later : List Four) → Agrees (stateThen address es e later) (historyThen address es e later)
   then-agrees later =
-      all-more later (answerFor (stateOf address es) e .state) (told (historyOf address es) (stateOf address es) e) (steps-well-formed (stateOf address es) (e .kind) (e .a) (e .b) (e .c) (well address made es)) (one-more (stateOf address es) (historyOf address es) e (well address made es) (agrees address made es))
+      all-more later (answerFor (stateOf address es) e .state) (withStep (historyOf address es) (stateOf address es) e) (steps-well-formed (stateOf address es) (e .kind) (e .a) (e .b) (e .c) (well address made es)) (one-more (stateOf address es) (historyOf address es) e (well address made es) (agrees address made es))
 
 pub faults-shown : FaultsShown
 unfolding historyFrom lastFrom
 faults-shown address made es e later r f found calm status =
     read-shows (stateThen address es e later) (historyThen address es e later) (then-well address made es e later) (then-agrees address made es e later) r status f
-    ∙ still-stands f later (answerFor (stateOf address es) e .state) (told (historyOf address es) (stateOf address es) e) (found-stands f (told (historyOf address es) (stateOf address es) e) found) calm
+    ∙ still-stands f later (answerFor (stateOf address es) e .state) (withStep (historyOf address es) (stateOf address es) e) (found-stands f (withStep (historyOf address es) (stateOf address es) e) found) calm
 
-low : (s : State) → s .latch ≡ true → masked (s .config) ≡ false → choosesTherm2 (s .config) ≡ false → alertLine s ≡ false
-low s l m t = rw (l, m, t)
+line : (s : State) (latch : Bool) → s .latch ≡ latch → alertLine s ≡ not (latch && lineFree (viewOf s))
+line s latch e = rw (← e) (ap not (free-line (s .latch) (masked (s .config)) (choosesTherm2 (s .config))))
+
+low : (s : State) → s .latch ≡ true → lineFree (viewOf s) ≡ true → alertLine s ≡ false
+low s l t = line s true l ∙ rw t
 
 pub alert-stays-low : AlertStaysLow
 unfolding historyFrom lastFrom
-alert-stays-low address made es e later set kept m t =
-    low (stateThen address es e later) (then-agrees address made es e later .rest .latching ∙ still-latched later (answerFor (stateOf address es) e .state) (told (historyOf address es) (stateOf address es) e) (set-latches (told (historyOf address es) (stateOf address es) e) set) kept) m t
+alert-stays-low address made es e later set kept t =
+    low (stateThen address es e later) (then-agrees address made es e later .rest .latching ∙ still-latched later (answerFor (stateOf address es) e .state) (withStep (historyOf address es) (stateOf address es) e) (set-latches (withStep (historyOf address es) (stateOf address es) e) set) kept) t
 
 -- a high limit written in standby, in the history
 module _ (h : History) (s : State) (e : Four) (ch : Channel) (b : ℕ) (form : formOf e ≡ Good (Write (s .given .address) (highCommand ch) b)) (still : standby (s .config) ≡ true) (conv : ever h ≡ true) (over : beyond (viewOf (answerFor s e .state)) ch Above ≡ true) where
@@ -266,15 +291,15 @@ module _ (h : History) (s : State) (e : Four) (ch : Channel) (b : ℕ) (form : f
       by Local = rw (still, conv)
       by Remote = rw (still, conv)
 
-  its-history : told h s e ≡ record { deed = Compared; seen = viewOf (answerFor s e .state); reply = answerFor s e .reply } ∷ h
+  its-history : withStep h s e ≡ record { deed = Compared; seen = viewOf (answerFor s e .state); reply = answerFor s e .reply } ∷ h
   its-history =
-      ap (λ (k : Checked). noted h (viewOf s) (viewOf (answerFor s e .state)) (answerFor s e .reply) k) form
+      ap (λ (k : Checked). withEvent h (viewOf s) (viewOf (answerFor s e .state)) (answerFor s e .reply) k) form
       ∙ ap (λ (d : Deed). record { deed = d; seen = viewOf (answerFor s e .state); reply = answerFor s e .reply } ∷ h) its-deed
 
-  it-finds : findsNow (Limit ch Above) (told h s e) ≡ true
+  it-finds : findsNow (Limit ch Above) (withStep h s e) ≡ true
   it-finds = rw (its-history, over)
 
-  it-sets : setsNow (told h s e) ≡ true
+  it-sets : setsNow (withStep h s e) ≡ true
   it-sets = rw its-history (by ch over)
     where
       by : (c : Channel) → beyond (viewOf (answerFor s e .state)) c Above ≡ true → findsLimit (record { deed = Compared; seen = viewOf (answerFor s e .state); reply = answerFor s e .reply }) ≡ true
@@ -317,8 +342,8 @@ answer-line s e = choice Lined (wellFormed s) (checkedOf s (formOf e)) (refused 
 
 pub standby-limit-alerts : StandbyLimitAlerts
 unfolding historyFrom lastFrom uncleared
-standby-limit-alerts address made es e ch b form still conv over m t =
-    answer-line (stateOf address es) e ∙ alert-stays-low address made es e [] (it-sets (historyOf address es) (stateOf address es) e ch b form still conv over) refl m t
+standby-limit-alerts address made es e ch b form still conv over t =
+    answer-line (stateOf address es) e ∙ alert-stays-low address made es e [] (it-sets (historyOf address es) (stateOf address es) e ch b form still conv over) refl t
 
 -- ---- A reset ----
 
@@ -417,7 +442,7 @@ module _ (address : ℤ) (made : madeOf address .code ≡ 0) (es : List Four) (e
   anew : answerFor (stateOf address es) e .state ≡ madeOf address .state
   anew = stepped ∙ ap powerOn (all-kept es (answerOf 0 0 (madeOf address .state))) ∙ made-power address made
 
-  forgot : told (historyOf address es) (stateOf address es) e ≡ []
+  forgot : withStep (historyOf address es) (stateOf address es) e ≡ []
   forgot = rw reset
 
 pub reset-begins-anew : ResetBeginsAnew
@@ -426,3 +451,10 @@ reset-begins-anew address made es e later reset = (
   ap (λ (t : State). after t later) (anew address made es e reset),
   ap (λ (h : History). historyFrom h (answerFor (stateOf address es) e .state) later) (forgot address made es e reset) ∙ ap (λ (t : State). historyFrom [] t later) (anew address made es e reset),
 )
+
+-- ---- The line ----
+
+pub line-shown : LineShown
+unfolding historyFrom lastFrom
+line-shown address made es e =
+    answer-line (stateOf address es) e ∙ line (stateThen address es e []) (latched (historyThen address es e [])) (then-agrees address made es e [] .rest .latching)

@@ -19,7 +19,7 @@ use Rattle.rules.specs.declared.answer.Answer.{Answer}
 use Rattle.rules.specs.Bits.{bit, weight}
 use Rattle.rules.specs.Channels.{any}
 use Rattle.rules.specs.Comparisons.{aboveOf, belowOf, limitOf}
-use Rattle.rules.specs.Configuration.{choosesTherm2, masked, standby}
+use Rattle.rules.specs.Configuration.{standby}
 use Rattle.rules.specs.Event.{checkOf}
 use Rattle.rules.specs.Lines.{alertLine}
 use Rattle.rules.specs.PowerOn.{madeOf}
@@ -31,8 +31,8 @@ use Rattle.rules.specs.Values.{scaleOf}
 
 -- ---- What the history is given ----
 
--- "never from stored flags": of a state, only the registers as written and the measured values. No flag, no verdict, no run count, no converted
--- mark, no latch, and not whether a conversion runs
+-- "never from stored flags": of a state, only the registers as written and the measured values, as the step stores them (that it stores what was
+-- written and measured is its own contract). No flag, no verdict, no run count, no converted mark, no latch, and not whether a conversion runs
 pub record View : Type 0 where
   pub address : ℕ
   pub pointer : ℕ
@@ -51,6 +51,10 @@ viewOf s =
       settings = λ ch. sensorAt s ch .settings;
       value = λ ch. sensorAt s ch .value;
     }
+
+-- "configuration bits 7 and 5 are 0"
+abbrev pub lineFree : View → Bool
+lineFree v = not (bit 7 (v .config)) && not (bit 5 (v .config))
 
 -- the two limits of a channel, and what a comparison of its value with one finds
 pub data Side : Type 0 where
@@ -71,11 +75,11 @@ answerFor s e = stepOf s (e .kind) (e .a) (e .b) (e .c)
 pub data Deed : Type 0 where
   Idle : Deed  -- none of these
   Began : Deed  -- a conversion began
-  Broke : Deed  -- a conversion that ran, if any, ended with no result
+  CutOff : Deed  -- a conversion that ran, if any, ended with no result
   Measured : Bool → Deed  -- a conversion ended with its values; was the diode open
   Compared : Deed  -- in standby, every channel was compared at a limit write
   StatusRead : Deed  -- register 02 was read
-  Asked : Deed  -- an alert response was asked for
+  Asked : Bool → Deed  -- an alert response was asked for; were configuration bits 7 and 5 both 0 before it
 
 -- beside it the registers and values once the event was over, and the reply that the step gave
 pub record Happened : Type 0 where
@@ -91,29 +95,29 @@ History = List Happened
 abbrev pub runsAfter : Deed → Bool → Bool
 runsAfter Idle r = r
 runsAfter Began r = true
-runsAfter Broke r = false
+runsAfter CutOff r = false
 runsAfter (Measured broken) r = false
 runsAfter Compared r = r
 runsAfter StatusRead r = r
-runsAfter Asked r = r
+runsAfter (Asked free) r = r
 
-unfoldable pub runs : History → Bool
-runs [] = false
-runs (h ∷ earlier) = runsAfter (h .deed) (runs earlier)
+unfoldable pub running : History → Bool
+running [] = false
+running (h ∷ earlier) = runsAfter (h .deed) (running earlier)
 
 -- "converted since power-on": a conversion measures every channel
 abbrev pub measures : Deed → Bool
 measures Idle = false
 measures Began = false
-measures Broke = false
+measures CutOff = false
 measures (Measured broken) = true
 measures Compared = false
 measures StatusRead = false
-measures Asked = false
+measures (Asked free) = false
 
-unfoldable pub converted : History → Bool
-converted [] = false
-converted (h ∷ earlier) = measures (h .deed) || converted earlier
+unfoldable pub everConverted : History → Bool
+everConverted [] = false
+everConverted (h ∷ earlier) = measures (h .deed) || everConverted earlier
 
 -- "a write to 0B to 0E, 13, 14, 19, 20 or 21"
 abbrev pub comparesAt : ℕ → Bool
@@ -127,9 +131,9 @@ deedIf happens d = cond happens d Idle
 -- standby, a write to .. compares each channel converted since power-on"
 abbrev pub writeDeed : History → View → View → ℕ → Deed
 writeDeed earlier before v command =
-    cond (eqb command 0x0f) (deedIf (standby (before .config) && not (runs earlier)) Began)
-    (cond (not (standby (before .config)) && standby (v .config)) Broke
-    (deedIf (comparesAt command && standby (before .config) && converted earlier) Compared))
+    cond (eqb command 0x0f) (deedIf (standby (before .config) && not (running earlier)) Began)
+    (cond (not (standby (before .config)) && standby (v .config)) CutOff
+    (deedIf (comparesAt command && standby (before .config) && everConverted earlier) Compared))
 
 -- "Kinds 3 and 4 reply the register at the pointer": a status read is one of register 02
 abbrev pub readsStatus : View → Event → Bool
@@ -149,9 +153,9 @@ deedOf earlier before v (Send a n) = Idle
 deedOf earlier before v (Write a n b) = cond (eqb a (before .address)) (writeDeed earlier before v n) Idle
 deedOf earlier before v (Read a n) = deedIf (readsStatus before (Read a n)) StatusRead
 deedOf earlier before v (Receive a) = deedIf (readsStatus before (Receive a)) StatusRead
-deedOf earlier before v Respond = Asked
-deedOf earlier before v Start = deedIf (not (standby (before .config)) && not (runs earlier)) Began
-deedOf earlier before v (End l r broken) = deedIf (runs earlier) (Measured broken)
+deedOf earlier before v Respond = Asked (lineFree before)
+deedOf earlier before v Start = deedIf (not (standby (before .config)) && not (running earlier)) Began
+deedOf earlier before v (End l r broken) = deedIf (running earlier) (Measured broken)
 
 -- a power-on begins the history anew
 abbrev pub isReset : Checked → Bool
@@ -171,17 +175,17 @@ checkedDeed earlier before v (Good e) = deedOf earlier before v e
 checkedDeed earlier before v (Bad code) = Idle
 
 -- the history with one event more, of which it is told the registers and values before and after it, and the reply
-abbrev pub noted : History → View → View → ℕ → Checked → History
-noted earlier before v reply k =
+abbrev pub withEvent : History → View → View → ℕ → Checked → History
+withEvent earlier before v reply k =
     cond (isReset k) [] (record { deed = checkedDeed earlier before v k; seen = v; reply = reply } ∷ earlier)
 
-abbrev pub told : History → State → Four → History
-told earlier s e =
-    noted earlier (viewOf s) (viewOf (answerFor s e .state)) (answerFor s e .reply) (checkOf (e .kind) (e .a) (e .b) (e .c))
+abbrev pub withStep : History → State → Four → History
+withStep earlier s e =
+    withEvent earlier (viewOf s) (viewOf (answerFor s e .state)) (answerFor s e .reply) (checkOf (e .kind) (e .a) (e .b) (e .c))
 
 unfoldable pub historyFrom : History → State → List Four → History
 historyFrom earlier s [] = earlier
-historyFrom earlier s (e ∷ es) = historyFrom (told earlier s e) (answerFor s e .state) es
+historyFrom earlier s (e ∷ es) = historyFrom (withStep earlier s e) (answerFor s e .state) es
 
 -- the events sent to a chip that was just powered on
 unfoldable pub historyOf : ℤ → List Four → History
@@ -192,13 +196,13 @@ historyOf address es = historyFrom [] (madeOf address .state) es
 -- "each of the five latched flags": the two limits of each channel, and the remote diode
 pub data Flag : Type 0 where
   Limit : Channel → Side → Flag
-  Open : Flag
+  OpenDiode : Flag
 
-abbrev pub limits : List Flag
-limits = Limit Local Above ∷ Limit Local Below ∷ Limit Remote Above ∷ Limit Remote Below ∷ []
+abbrev pub limitFlags : List Flag
+limitFlags = Limit Local Above ∷ Limit Local Below ∷ Limit Remote Above ∷ Limit Remote Below ∷ []
 
-abbrev pub flags : List Flag
-flags = limits ++ (Open ∷ [])
+abbrev pub fiveFlags : List Flag
+fiveFlags = limitFlags ++ (OpenDiode ∷ [])
 
 -- what an event's comparison (for the open flag, diode check) found
 pub data Finding : Type 0 where
@@ -220,24 +224,24 @@ isFault FoundFault = true
 abbrev pub limitFinding : Deed → Bool → Finding
 limitFinding Idle fault = MadeNone
 limitFinding Began fault = MadeNone
-limitFinding Broke fault = MadeNone
+limitFinding CutOff fault = MadeNone
 limitFinding (Measured broken) fault = outcome fault
 limitFinding Compared fault = outcome fault
 limitFinding StatusRead fault = MadeNone
-limitFinding Asked fault = MadeNone
+limitFinding (Asked free) fault = MadeNone
 
 abbrev pub diodeFinding : Deed → Finding
 diodeFinding Idle = MadeNone
 diodeFinding Began = MadeNone
-diodeFinding Broke = MadeNone
+diodeFinding CutOff = MadeNone
 diodeFinding (Measured broken) = outcome broken
 diodeFinding Compared = MadeNone
 diodeFinding StatusRead = MadeNone
-diodeFinding Asked = MadeNone
+diodeFinding (Asked free) = MadeNone
 
 abbrev pub findingOf : Flag → Happened → Finding
 findingOf (Limit ch side) h = limitFinding (h .deed) (beyond (h .seen) ch side)
-findingOf Open h = diodeFinding (h .deed)
+findingOf OpenDiode h = diodeFinding (h .deed)
 
 abbrev pub finds : Flag → Happened → Bool
 finds f h = isFault (findingOf f h)
@@ -258,11 +262,11 @@ latest f (h ∷ earlier) = orElse (findingOf f h) (latest f earlier)
 abbrev pub isStatusRead : Deed → Bool
 isStatusRead Idle = false
 isStatusRead Began = false
-isStatusRead Broke = false
+isStatusRead CutOff = false
 isStatusRead (Measured broken) = false
 isStatusRead Compared = false
 isStatusRead StatusRead = true
-isStatusRead Asked = false
+isStatusRead (Asked free) = false
 
 abbrev pub clears : Flag → Happened → History → Bool
 clears f h earlier = isStatusRead (h .deed) && not (isFault (latest f earlier))
@@ -273,9 +277,9 @@ stands f [] = false
 stands f (h ∷ earlier) = cond (clears f h earlier) false (finds f h || stands f earlier)
 
 -- "The first such comparison opens a spell"
-unfoldable pub opened : Flag → History → ℕ
-opened f [] = 0
-opened f (h ∷ earlier) = weight (finds f h && not (stands f earlier)) 1 + opened f earlier
+unfoldable pub spellsOpened : Flag → History → ℕ
+spellsOpened f [] = 0
+spellsOpened f (h ∷ earlier) = weight (finds f h && not (stands f earlier)) 1 + spellsOpened f earlier
 
 -- 6 local high, 5 local low, 4 remote high, 3 remote low, 2 open
 abbrev pub placeOf : Flag → ℕ
@@ -283,17 +287,17 @@ placeOf (Limit Local Above) = 6
 placeOf (Limit Local Below) = 5
 placeOf (Limit Remote Above) = 4
 placeOf (Limit Remote Below) = 3
-placeOf Open = 2
+placeOf OpenDiode = 2
 
 -- "the clearing reads that showed 1"
-unfoldable pub closed : Flag → History → ℕ
-closed f [] = 0
-closed f (h ∷ earlier) = weight (clears f h earlier && bit (placeOf f) (h .reply)) 1 + closed f earlier
+unfoldable pub readsThatClosed : Flag → History → ℕ
+readsThatClosed f [] = 0
+readsThatClosed f (h ∷ earlier) = weight (clears f h earlier && bit (placeOf f) (h .reply)) 1 + readsThatClosed f earlier
 
 -- ---- The latch, by the history ----
 
 abbrev pub findsLimit : Happened → Bool
-findsLimit h = any (map (λ (f : Flag). finds f h) limits)
+findsLimit h = any (map (λ (f : Flag). finds f h) limitFlags)
 
 -- "completed conversions in a row in which any of the four limit faults was found"
 unfoldable pub inARow : History → ℕ
@@ -309,38 +313,35 @@ needs b = cond (bit 1 b) (cond (bit 2 b) (cond (bit 3 b) 4 3) 2) 1
 abbrev pub setBy : Deed → ℕ → Bool → ℕ → Bool
 setBy Idle needed found row = false
 setBy Began needed found row = false
-setBy Broke needed found row = false
+setBy CutOff needed found row = false
 setBy (Measured broken) needed found row = broken || leb needed row
 setBy Compared needed found row = found
 setBy StatusRead needed found row = false
-setBy Asked needed found row = false
+setBy (Asked free) needed found row = false
 
 abbrev pub sets : Happened → History → Bool
 sets h earlier = setBy (h .deed) (needs (h .seen .consecutive)) (findsLimit h) (inARow (h ∷ earlier))
 
-abbrev pub isAsked : Deed → Bool
-isAsked Idle = false
-isAsked Began = false
-isAsked Broke = false
-isAsked (Measured broken) = false
-isAsked Compared = false
-isAsked StatusRead = false
-isAsked Asked = true
-
--- ALERT is low where the latch stands "and configuration bits 7 and 5 are 0", and an alert response is answered while it is low
-abbrev pub isLow : Bool → View → Bool
-isLow latch v = latch && not (masked (v .config)) && not (choosesTherm2 (v .config))
+-- an alert response is answered where the latch stands and those bits are 0
+abbrev pub isAnswered : Deed → Bool → Bool
+isAnswered Idle latch = false
+isAnswered Began latch = false
+isAnswered CutOff latch = false
+isAnswered (Measured broken) latch = false
+isAnswered Compared latch = false
+isAnswered StatusRead latch = false
+isAnswered (Asked free) latch = latch && free
 
 -- "all five flags 0"
 abbrev pub allClear : History → Bool
-allClear earlier = not (any (map (λ (f : Flag). stands f earlier) flags))
+allClear earlier = not (any (map (λ (f : Flag). stands f earlier) fiveFlags))
 
 -- "The ALERT latch stands exactly if something that sets it came after the last alert response answered with all five flags 0": looking
 -- back from now
 unfoldable pub latched : History → Bool
 latched [] = false
 latched (h ∷ earlier) =
-    cond (isAsked (h .deed) && isLow (latched earlier) (h .seen) && allClear earlier) false (sets h earlier || latched earlier)
+    cond (isAnswered (h .deed) (latched earlier) && allClear earlier) false (sets h earlier || latched earlier)
 
 -- ---- The claims ----
 
@@ -348,10 +349,18 @@ latched (h ∷ earlier) =
 abbrev pub flagAt : State → Flag → Bool
 flagAt s (Limit ch Above) = sensorAt s ch .marks .high .flag
 flagAt s (Limit ch Below) = sensorAt s ch .marks .low .flag
-flagAt s Open = s .remote .marks .diode .flag
+flagAt s OpenDiode = s .remote .marks .diode .flag
 
 abbrev pub stateOf : ℤ → List Four → State
 stateOf address es = after (madeOf address .state) es
+
+-- after some events, one more, and others after it: the state, and the history
+abbrev pub stateThen : ℤ → List Four → Four → List Four → State
+stateThen address es e later = after (answerFor (stateOf address es) e .state) later
+
+abbrev pub historyThen : ℤ → List Four → Four → List Four → History
+historyThen address es e later =
+    historyFrom (withStep (historyOf address es) (stateOf address es) e) (answerFor (stateOf address es) e .state) later
 
 -- "The flag stands exactly if a comparison since the last clearing read found the fault"
 abbrev pub FlagsStand : Type 0
@@ -362,7 +371,7 @@ FlagsStand =
 abbrev pub SpellsCount : Type 0
 SpellsCount =
     (address : ℤ) → madeOf address .code ≡ 0 → (es : List Four) (f : Flag)
-    → opened f (historyOf address es) ≡ closed f (historyOf address es) + weight (stands f (historyOf address es)) 1
+    → spellsOpened f (historyOf address es) ≡ readsThatClosed f (historyOf address es) + weight (stands f (historyOf address es)) 1
 
 -- "The ALERT latch stands exactly if something that sets it came after the last alert response answered with all five flags 0"
 abbrev pub LatchStands : Type 0
@@ -376,9 +385,15 @@ respond = record { kind = pos 5; a = pos 0; b = pos 0; c = pos 0 }
 abbrev pub ResponsesAnswered : Type 0
 ResponsesAnswered =
     (address : ℤ) → madeOf address .code ≡ 0 → (es : List Four)
-    → answerFor (stateOf address es) respond .code ≡ cond (isLow (latched (historyOf address es)) (viewOf (stateOf address es))) 0 3
+    → answerFor (stateOf address es) respond .code ≡ cond (latched (historyOf address es) && lineFree (viewOf (stateOf address es))) 0 3
 
--- a status read, of all five flags: the reply has each as the history has it
+-- "ALERT is low exactly if the latch is set and configuration bits 7 and 5 are 0": the line that every answer reports, 1 being high
+abbrev pub LineShown : Type 0
+LineShown =
+    (address : ℤ) → madeOf address .code ≡ 0 → (es : List Four) (e : Four)
+    → answerFor (stateOf address es) e .alert ≡ not (latched (historyThen address es e []) && lineFree (viewOf (stateThen address es e [])))
+
+-- a status read is done, and its reply has each of the five flags as the history has it
 abbrev pub checkedReads : View → Checked → Bool
 checkedReads v (Good e) = readsStatus v e
 checkedReads v (Bad code) = false
@@ -391,16 +406,9 @@ isStatusEvent s e = checkedReads (viewOf s) (formOf e)
 
 abbrev pub ReadsShow : Type 0
 ReadsShow =
-    (address : ℤ) → madeOf address .code ≡ 0 → (es : List Four) (e : Four) → isStatusEvent (stateOf address es) e ≡ true → (f : Flag)
-    → bit (placeOf f) (answerFor (stateOf address es) e .reply) ≡ stands f (historyOf address es)
-
--- after some events, one more, and others after it: the state, and the history
-abbrev pub stateThen : ℤ → List Four → Four → List Four → State
-stateThen address es e later = after (answerFor (stateOf address es) e .state) later
-
-abbrev pub historyThen : ℤ → List Four → Four → List Four → History
-historyThen address es e later =
-    historyFrom (told (historyOf address es) (stateOf address es) e) (answerFor (stateOf address es) e .state) later
+    (address : ℤ) → madeOf address .code ≡ 0 → (es : List Four) (e : Four) → isStatusEvent (stateOf address es) e ≡ true
+    → (answerFor (stateOf address es) e .code ≡ 0)
+    × ((f : Flag) → bit (placeOf f) (answerFor (stateOf address es) e .reply) ≡ stands f (historyOf address es))
 
 -- "from the latest power-on": after a reset the chip, and its history, are those of a chip just powered on
 abbrev pub ResetBeginsAnew : Type 0
@@ -421,7 +429,7 @@ setsNow (h ∷ earlier) = sets h earlier
 
 abbrev pub clearsLatchNow : History → Bool
 clearsLatchNow [] = false
-clearsLatchNow (h ∷ earlier) = isAsked (h .deed) && isLow (latched earlier) (h .seen) && allClear earlier
+clearsLatchNow (h ∷ earlier) = isAnswered (h .deed) (latched earlier) && allClear earlier
 
 -- among events sent to a state, no power-on and no status read; no power-on and no alert response answered with all five flags 0
 unfoldable pub unread : State → List Four → Bool
@@ -431,7 +439,7 @@ unread s (e ∷ es) = not (isReset (formOf e)) && not (isStatusEvent s e) && unr
 unfoldable pub uncleared : History → State → List Four → Bool
 uncleared h s [] = true
 uncleared h s (e ∷ es) =
-    not (isReset (formOf e)) && not (clearsLatchNow (told h s e)) && uncleared (told h s e) (answerFor s e .state) es
+    not (isReset (formOf e)) && not (clearsLatchNow (withStep h s e)) && uncleared (withStep h s e) (answerFor s e .state) es
 
 -- a fault that a comparison finds is shown by the next status read
 abbrev pub FaultsShown : Type 0
@@ -447,14 +455,14 @@ NoneInvented =
     (address : ℤ) → madeOf address .code ≡ 0 → (es : List Four) (r : Four) (f : Flag) → isStatusEvent (stateOf address es) r ≡ true
     → stands f (historyOf address es) ≡ false → bit (placeOf f) (answerFor (stateOf address es) r .reply) ≡ false
 
--- from what set the latch until an alert response is answered with all flags 0, ALERT is low while configuration bits 7 and 5 are 0
+-- from what set the latch until an alert response is answered with all flags 0, ALERT is low while configuration bits 7 and 5 are 0 (the line of
+-- a state is the one that its answer reports)
 abbrev pub AlertStaysLow : Type 0
 AlertStaysLow =
     (address : ℤ) → madeOf address .code ≡ 0 → (es : List Four) (e : Four) (later : List Four)
     → setsNow (historyThen address es e []) ≡ true
     → uncleared (historyThen address es e []) (stateThen address es e []) later ≡ true
-    → masked (stateThen address es e later .config) ≡ false → choosesTherm2 (stateThen address es e later .config) ≡ false
-    → alertLine (stateThen address es e later) ≡ false
+    → lineFree (viewOf (stateThen address es e later)) ≡ true → alertLine (stateThen address es e later) ≡ false
 
 -- 0B, 0D: where a channel's high limit is written
 abbrev pub highCommand : Channel → ℕ
@@ -466,7 +474,7 @@ abbrev pub StandbyLimitShown : Type 0
 StandbyLimitShown =
     (address : ℤ) → madeOf address .code ≡ 0 → (es : List Four) (e : Four) (later : List Four) (r : Four) (ch : Channel) (b : ℕ)
     → formOf e ≡ Good (Write (stateOf address es .given .address) (highCommand ch) b)
-    → standby (stateOf address es .config) ≡ true → converted (historyOf address es) ≡ true
+    → standby (stateOf address es .config) ≡ true → everConverted (historyOf address es) ≡ true
     → beyond (viewOf (stateThen address es e [])) ch Above ≡ true → unread (stateThen address es e []) later ≡ true
     → isStatusEvent (stateThen address es e later) r ≡ true
     → bit (placeOf (Limit ch Above)) (answerFor (stateThen address es e later) r .reply) ≡ true
@@ -476,7 +484,6 @@ abbrev pub StandbyLimitAlerts : Type 0
 StandbyLimitAlerts =
     (address : ℤ) → madeOf address .code ≡ 0 → (es : List Four) (e : Four) (ch : Channel) (b : ℕ)
     → formOf e ≡ Good (Write (stateOf address es .given .address) (highCommand ch) b)
-    → standby (stateOf address es .config) ≡ true → converted (historyOf address es) ≡ true
+    → standby (stateOf address es .config) ≡ true → everConverted (historyOf address es) ≡ true
     → beyond (viewOf (stateThen address es e [])) ch Above ≡ true
-    → masked (stateThen address es e [] .config) ≡ false → choosesTherm2 (stateThen address es e [] .config) ≡ false
-    → answerFor (stateOf address es) e .alert ≡ false
+    → lineFree (viewOf (stateThen address es e [])) ≡ true → answerFor (stateOf address es) e .alert ≡ false

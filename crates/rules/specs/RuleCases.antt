@@ -138,6 +138,13 @@ ruleRows =
     row (answeredFrom (withConfig ready 164) (start ∷ [])) (0 ∷ 0 ∷ 1 ∷ 1 ∷ []) ∷
     row (answeredFrom (withStored ready (Of Remote HighFine) 32) (start ∷ [])) (6 ∷ 0 ∷ 1 ∷ 1 ∷ []) ∷
     row (answeredFrom (withStored ready (Of Local Offset) 1) (start ∷ [])) (6 ∷ 0 ∷ 1 ∷ 1 ∷ []) ∷
+    -- an open diode without a limit fault ends the run: of three that are needed this is the second
+    row (answered (write 0x22 7 ∷ write 0x0b 15 ∷ convert (pos 20) (pos 100) (start ∷ end (pos 10) (pos 100) 1 ∷ convert (pos 20) (pos 100) (write 0x09 64 ∷ write 0x0b 85 ∷ status ∷ respond ∷ write 0x09 0 ∷ write 0x0b 15 ∷ convert (pos 20) (pos 100) [])))) (0 ∷ 0 ∷ 1 ∷ 1 ∷ []) ∷
+    -- a read moves the pointer; a status read leaves a limit; one is written while a one-shot runs; a hole's write changes nothing else
+    row (answered (read 0x05 ∷ receive ∷ [])) (0 ∷ 0x55 ∷ 1 ∷ 1 ∷ []) ∷
+    row (answered (hot (status ∷ read 0x07 ∷ []))) (0 ∷ 0x55 ∷ 0 ∷ 0 ∷ []) ∷
+    row (answered (write 0x09 64 ∷ write 0x0f 0 ∷ write 0x0d 40 ∷ read 0x07 ∷ [])) (0 ∷ 40 ∷ 1 ∷ 1 ∷ []) ∷
+    row (answered (write 0x30 5 ∷ read 0x04 ∷ [])) (0 ∷ 8 ∷ 1 ∷ 1 ∷ []) ∷
     -- a refused event moves nothing: the pointer is still at 05
     row (answered (send 0x05 ∷ four 3 (pos 77) (pos 0x02) (pos 0) ∷ receive ∷ [])) (0 ∷ 0x55 ∷ 1 ∷ 1 ∷ []) ∷
     []
