@@ -32,7 +32,8 @@ enum {
     DLAVETH_REPORT_BYTES = 16,      /* the report's length */
     DLAVETH_MOST_BYTES = 16777216,  /* the longest trace, and the longest output: 16 MiB */
     DLAVETH_RECORD_BYTES = 19,      /* the shortest record */
-    DLAVETH_ANSWER_BYTES = 33       /* the longest answer: room of 33 * (trace_len / 19) is always enough */
+    DLAVETH_ANSWER_BYTES = 33       /* the longest answer: room of 33 * (trace_len / 19) is enough for any trace of
+                                       that length, up to 9659618 bytes; beyond, that would be more than 16 MiB */
 };
 
 /*
@@ -41,14 +42,23 @@ enum {
  * address     the chip's bus address, 76 or 77.
  * trace       trace_len bytes: records one behind the other. A record is four lines, kind=, a=, b= and c=, each with a decimal number of 1
  *             to 5 digits (a minus before it where negative; no plus, no leading zero, no -0, no space) and ended by byte 10.
- *             It is only read.
+ *             It is only read. The kinds, and the fields that each uses (the others must be 0):
+ *               0 power-on reset
+ *               1 send byte            a bus address 0..127, b command 0..255
+ *               2 write byte           a bus address, b command, c data 0..255
+ *               3 read byte            a bus address, b command
+ *               4 receive byte         a bus address
+ *               5 alert response read
+ *               6 conversion starts
+ *               7 conversion ends      a local whole degrees -8192..8191, b remote quarters -32768..32767 (written with 5 digits
+ *                                      at most, as all numbers are), c diode open 0..1
  * output      output_len bytes for the answers, one behind the other from the first byte. An answer is four lines, code=, reply=, alert= and
  *             therm=, each ended by byte 10; 1 means that the line is high. No byte behind the last answer is touched, and none after
  *             the text is written (no zero byte ends it): its length is in the report.
  * report      report_len bytes, which must be 16: code, records answered, trace bytes used, output bytes written, each a number of 4
  *             bytes, low byte first.
  *
- * Returns a code, which the report has too:
+ * Returns a code, which the report has too but for code 2:
  *   0  the whole trace was answered (an empty one has no answers)
  *   2  address not 76 or 77, trace_len or output_len over 16 MiB, or report_len not 16. Nothing was written, the report included
  *   7  the rest of the trace begins with no record: the answers before it stand, and nothing of it reached the chip
