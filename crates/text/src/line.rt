@@ -1,6 +1,9 @@
 // A line: a name, an equals sign, a number.
 ghost use mathlib.Core.Path.{_≡_};
-ghost use lib.ListN.{drop};
+ghost use mathlib.Core.Bool.{cond};
+ghost use Prim.Native.Nat.{_≤_};
+ghost use lib.ListN.{length, drop};
+ghost use Rattle.text.specs.declared.line.Fit.the-variants.{No};
 ghost use Rattle.text.specs.Number.{longer, numberOf};
 ghost use Rattle.text.specs.Line.{fitOf, behindName};
 use crate::number;
@@ -13,20 +16,34 @@ pub enum Fit {
     No,
 }
 
+// The first n bytes of both are the same. All of them are compared, so that the compiler takes a known name in one piece.
+fn same(name: &[u8], s: &[u8], n: usize) -> bool
+    requires { ⌜ (n ≤ length (now name)) × (n ≤ length (now s)) ⌝ }
+    ensures { λ r. ⌜ fitOf (now (name .entry)) (now (s .entry)) ≡ cond r (fitOf (drop n (now (name .entry))) (drop n (now (s .entry)))) No ⌝ }
+{
+    let mut i = 0;
+    let mut all = true;
+    while i < n {
+        all = all & (name[i] == s[i]);
+        i = i + 1;
+    }
+    all
+}
+
 pub fn fit_name(name: &[u8], s: &[u8]) -> Fit
     ensures { λ r. ⌜ r ≡ fitOf (now (name .entry)) (now (s .entry)) ⌝ }
 {
-    let mut i = 0;
-    while i < name.len() {
-        if s.len() <= i {
-            return Fit::Begun;
+    if name.len() <= s.len() {
+        if same(name, s, name.len()) {
+            Fit::Yes
+        } else {
+            Fit::No
         }
-        if name[i] != s[i] {
-            return Fit::No;
-        }
-        i = i + 1;
+    } else if same(name, s, s.len()) {
+        Fit::Begun
+    } else {
+        Fit::No
     }
-    Fit::Yes
 }
 
 // A number and the end of its line, behind k bytes. A part of no more than them could still get one.
