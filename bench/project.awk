@@ -67,7 +67,7 @@ function give(symbol, whole,    i, part) {
 }
 END {
     line = "text::line::line"
-    number = "text::number::number"
+    number = "text::line::behind"                                          # with the number in it
     between = (line in first) ? "reading: from line to line" : "reading: names, and from line to line"
 
     f = first["replay"]; l = last["replay"]

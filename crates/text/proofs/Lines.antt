@@ -76,7 +76,7 @@ pub line-between : (name s : List ℕ) → Between (length name + 2) (length s) 
 unfolding lineOf
 line-between name s = by (fitOf name s) refl
   where
-    by : (f : Fit) → fitOf name s ≡ f → Between (length name + 2) (length s) (behindName f name s)
+    by : (f : Fit) → fitOf name s ≡ f → Between (length name + 2) (length s) (behindName f (longer (length name) (numberOf (drop (length name) s))))
     by Yes e =
         let k = length name in
         behind k 2 s (numberOf (drop k s)) (fit-inside name s e) (number-between (drop k s))

@@ -119,7 +119,7 @@ pub line-firm : (name s t : List ℕ) → Firm Short (lineOf name s) (lineOf nam
 unfolding lineOf
 line-firm name s t = by (fitOf name s) refl (fit-firm name s t)
   where
-    by : (f : Fit) → fitOf name s ≡ f → Firm Begun (fitOf name s) (fitOf name (s ++ t)) → Firm Short (behindName f name s) (behindName (fitOf name (s ++ t)) name (s ++ t))
+    by : (f : Fit) → fitOf name s ≡ f → Firm Begun (fitOf name s) (fitOf name (s ++ t)) → Firm Short (behindName f (longer (length name) (numberOf (drop (length name) s)))) (behindName (fitOf name (s ++ t)) (longer (length name) (numberOf (drop (length name) (s ++ t)))))
     by Yes e =
         ⊎-elim (λ b. absurd (let z : _≡_ {A = ℕ} 0 1 = cc in omega arith))
         (λ q. rw (q, e, drop-append-le (length name) s t (fit-inside name s e)) (longer-firm (length name) (number-firm (drop (length name) s) t)))

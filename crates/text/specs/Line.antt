@@ -16,10 +16,11 @@ fitOf [] s = Yes
 fitOf (x ∷ xs) [] = Begun
 fitOf (x ∷ xs) (y ∷ ys) = cond (eqb x y) (fitOf xs ys) No
 
-abbrev pub behindName : Fit → List ℕ → List ℕ → Line
-behindName Yes name s = longer (length name) (numberOf (drop (length name) s))
-behindName Begun name s = Short
-behindName No name s = Never
+-- l, where the name stands in front of it
+abbrev pub behindName : Fit → Line → Line
+behindName Yes l = l
+behindName Begun l = Short
+behindName No l = Never
 
 unfoldable pub lineOf : List ℕ → List ℕ → Line
-lineOf name s = behindName (fitOf name s) name s
+lineOf name s = behindName (fitOf name s) (longer (length name) (numberOf (drop (length name) s)))

@@ -34,21 +34,27 @@ fn refused(l: Line) -> Parsed
 pub fn read_record(s: &[u8]) -> Parsed
     ensures { λ r. ⌜ r ≡ recordOf (now (s .entry)) ⌝ }
 {
-    let first = line::line(b"kind=", s);
+    let first = line::line(line::fit_name(b"kind=", s), line::behind(5, s));
     let Line::Is(kind, n) = first else {
         return refused(first);
     };
-    let second = line::line(b"a=", &s[n..]);
+    let second = line::line(line::fit_name(b"a=", &s[n..]), line::behind(2, &s[n..]));
     let Line::Is(a, m) = second else {
         return refused(second);
     };
     let after_a = n + m;
-    let third = line::line(b"b=", &s[after_a..]);
+    let third = line::line(
+        line::fit_name(b"b=", &s[after_a..]),
+        line::behind(2, &s[after_a..]),
+    );
     let Line::Is(b, k) = third else {
         return refused(third);
     };
     let after_b = after_a + k;
-    let fourth = line::line(b"c=", &s[after_b..]);
+    let fourth = line::line(
+        line::fit_name(b"c=", &s[after_b..]),
+        line::behind(2, &s[after_b..]),
+    );
     let Line::Is(c, j) = fourth else {
         return refused(fourth);
     };

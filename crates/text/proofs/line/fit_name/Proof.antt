@@ -1,73 +1,73 @@
--- `line::fit_name` meets its contract. The loop's invariant: what is left of both fits as the whole does. Assumes nothing.
-use Prim.Native.Nat.{ℕ, _+_, _-_, _≤_, _<_}
-use native.Mathlib.Numerals.{add-one}
+-- `line::fit_name` meets its contract: what is left of a name, or of a part, whose bytes are all the same. Assumes nothing.
+use Prim.Native.Nat.{ℕ, _≤_, _<_}
 use native.Mathlib.Omega.{arith}
-use mathlib.Core.Path.{_≡_, refl, sym, _∙_}
+use mathlib.Core.Path.{_≡_, sym, _∙_}
+use mathlib.Core.Bool.{Bool, true, false, cond}
 use mathlib.Core.List.{List}
-use lib.ListN.{length, getD, drop, drop-of-length-le}
+use lib.ListN.{length, drop, drop-of-length-le}
 use lib.Seq.{drop-cons}
-use borrow.Author.Tests.{eq-eqb, ne-eqb}
+use Rattle.text.specs.declared.line.Fit.{Fit}
 use Rattle.text.specs.declared.line.Fit.the-variants.{Yes, Begun, No}
 use Rattle.text.specs.Line.{fitOf}
 use Rattle.text.proofs.line.fit_name.Statement.{statement}
 use Rattle.text.proofs.line.fit_name.Tie as tie
 
-abbrev Inv-loop : tie.InvT-loop
-Inv-loop name s i₀ i = (i ≤ length name) × (fitOf name s ≡ fitOf (drop i name) (drop i s))
+-- all bytes are the same, or one is not
+all : (r : Bool) (g : Fit) {f : Fit} → f ≡ cond r g No → r ≡ true → f ≡ g
+all r g e h = rw h at e
 
-abbrev μ-loop : tie.MeasureT-loop
-μ-loop name s i₀ i = length name - i
+one : (r : Bool) (g : Fit) {f : Fit} → f ≡ cond r g No → r ≡ false → f ≡ No
+one r g e h = rw h at e
 
-module _ (xs ys : List ℕ) (i : ℕ) where
-  whole : length xs ≤ i → fitOf (drop i xs) (drop i ys) ≡ Yes
+module _ (xs ys : List ℕ) where
+  abbrev left : ℕ → Fit
+  left n = fitOf (drop n xs) (drop n ys)
+
+  whole : left (length xs) ≡ Yes
   unfolding fitOf
-  whole h = rw (drop-of-length-le xs h)
+  whole = let h : length xs ≤ length xs = omega arith in rw (drop-of-length-le xs h)
 
-  begun : i < length xs → length ys ≤ i → fitOf (drop i xs) (drop i ys) ≡ Begun
+  begun : length ys < length xs → left (length ys) ≡ Begun
   unfolding fitOf
-  begun p h = rw (drop-cons xs i 0 p, drop-of-length-le ys h)
+  begun p = let h : length ys ≤ length ys = omega arith in rw (drop-cons xs (length ys) 0 p, drop-of-length-le ys h)
 
-  other : i < length xs → i < length ys → (getD xs i 0 ≡ getD ys i 0 → ⊥) → fitOf (drop i xs) (drop i ys) ≡ No
-  unfolding fitOf
-  other p q d = rw (drop-cons xs i 0 p, drop-cons ys i 0 q, ne-eqb _ _ d)
+abbrev start : tie.After-same → tie.Start
+start c = c .before .before .before .before
 
-  same : i < length xs → i < length ys → getD xs i 0 ≡ getD ys i 0 → fitOf (drop i xs) (drop i ys) ≡ fitOf (drop (i + 1) xs) (drop (i + 1) ys)
-  unfolding fitOf
-  same p q e = rw (add-one i, drop-cons xs i 0 p, drop-cons ys i 0 q, eq-eqb _ _ e)
+abbrev start2 : tie.After-same2 → tie.Start
+start2 c = c .before .before .before .before
 
-loop-holds : tie.Need-loop-holds Inv-loop μ-loop
-loop-holds c = (omega arith, refl)
-
-returns : tie.Need-returns Inv-loop μ-loop
+returns : tie.Need-returns
 returns c =
-    let l = c .before .before .loop in
-    sym (l .inv .1 ∙ begun _ _ (l .i) (c .before .loop-test .taken) (c .if1 .taken))
+    let d = start (c .before) in
+    let xs = d .args .name .now in
+    let ys = d .args .s .now in
+    sym (all (c .before .same .result) (left xs ys (length xs)) (c .before .same .ensures) (c .if2 .taken) ∙ whole xs ys)
 
-returns-2 : tie.Need-returns-2 Inv-loop μ-loop
+returns-2 : tie.Need-returns-2
 returns-2 c =
-    let l = c .before .before .before .before .before .loop in
-    sym (l .inv .1 ∙ other _ _ (l .i) (omega arith) (omega arith) (c .if2 .taken))
+    let d = start (c .before) in
+    sym (one (c .before .same .result) (left (d .args .name .now) (d .args .s .now) (length (d .args .name .now))) (c .before .same .ensures) (c .if2 .left))
 
-loop-again : tie.Need-loop-again Inv-loop μ-loop
-loop-again c =
-    let l = c .before .before .before .before .before .loop in
-    (omega arith, l .inv .1 ∙ same _ _ (l .i) (omega arith) (omega arith) (c .if2 .left))
+returns-3 : tie.Need-returns-3
+returns-3 c =
+    let d = start2 (c .before) in
+    let xs = d .args .name .now in
+    let ys = d .args .s .now in
+    sym (all (c .before .same2 .result) (left xs ys (length ys)) (c .before .same2 .ensures) (c .if3 .taken) ∙ begun xs ys (c .before .before .if1 .left))
 
-returns-3 : tie.Need-returns-3 Inv-loop μ-loop
-returns-3 c = let l = c .before .loop in sym (l .inv .1 ∙ whole _ _ (l .i) (c .loop-test .left))
+returns-4 : tie.Need-returns-4
+returns-4 c =
+    let d = start2 (c .before) in
+    sym (one (c .before .same2 .result) (left (d .args .name .now) (d .args .s .now) (length (d .args .s .now))) (c .before .same2 .ensures) (c .if3 .left))
 
 pub fit-name-spec : {M : Type 1} → statement M
 fit-name-spec =
     tie.close
     (tie.spec
-    Inv-loop
-    μ-loop
-    loop-holds
+    (λ c κs. (omega arith, omega arith))
+    (λ c κs. (omega arith, omega arith))
     returns
-    (λ c. omega arith)
-    (λ c. omega arith)
     returns-2
-    (λ c. omega arith)
-    (λ c. omega arith)
-    loop-again
-    returns-3)
+    returns-3
+    returns-4)

@@ -16,7 +16,8 @@ use Rattle.text.specs.declared.number.Line.the-variants.{Is, Short, Neve
 use Rattle.text.specs.declared.record.Parsed.{Parsed}
 use Rattle.text.specs.declared.record.Parsed.the-variants.{Malformed}
 use Rattle.text.specs.Names.{kindName, aName, bName, cName}
-use Rattle.text.specs.Line.{lineOf}
+use Rattle.text.specs.declared.line.Fit.{Fit}
+use Rattle.text.specs.Line.{behindName, lineOf}
 use Rattle.text.specs.Record.{next, recordOf}
 use Rattle.text.proofs.Signed.{kept}
 use Rattle.text.proofs.Lines.{read-between, read-from}
@@ -30,15 +31,23 @@ stopped f (Is v n) h = absurd (miss (1 ∷ 2 ∷ []) 0 tt h)
 stopped f Short h = refl
 stopped f Never h = refl
 
+-- a name's fit and what stands behind the name, each as it is defined
+named : {f f′ : Fit} {l l′ : Line} → f ≡ f′ → l ≡ l′ → behindName f l ≡ behindName f′ l′
+named e g = rw (e, g)
+
 -- the first line: the part, how far it was read, and what was
 abbrev part1 : tie.After-first → List ℕ
-part1 c = c .before .before .before .before .before .args .s .now
+part1 c = c .before .before .before .before .before .before .before .args .s .now
 
 abbrev end1 : tie.After-first → ℕ
 end1 c = c .first .given .0 .1 .0
 
+line1 : (c : tie.After-line) → c .line .result ≡ lineOf kindName (c .before .before .before .before .before .args .s .now)
+unfolding lineOf
+line1 c = c .line .ensures ∙ named (c .before .before .fit-name .ensures) (c .before .behind .ensures)
+
 read1 : (c : tie.After-first) → lineOf kindName (part1 c) ≡ Is (c .first .given .0 .0) (end1 c)
-read1 c = sym (c .before .before .line .ensures) ∙ c .first .given .1
+read1 c = sym (line1 (c .before .before)) ∙ c .first .given .1
 
 room1 : (c : tie.After-first) → end1 c ≤ length (part1 c)
 room1 c = read-between kindName (part1 c) (read1 c) .1
@@ -49,15 +58,17 @@ kept1 c = kept (c .first .given .0 .0) (read-between kindName (part1 c) (read1 c
 returns : tie.Need-returns
 unfolding recordOf
 returns c =
-    rw (c .refused .ensures, ← c .before .before .line .ensures)
+    rw (c .refused .ensures, ← line1 (c .before .before))
     (stopped _ (c .before .before .line .result) (c .before .match .keys2))
 
 -- the second
 abbrev from2 : tie.After-line2 → tie.After-first
-from2 c = c .before .before .before .before
+from2 c = c .before .before .before .before .before .before .before
 
 line2 : (c : tie.After-line2) → c .line2 .result ≡ lineOf aName (drop (end1 (from2 c)) (part1 (from2 c)))
-line2 c = c .line2 .ensures ∙ rw (part-to-end (part1 (from2 c)) (end1 (from2 c)))
+unfolding lineOf
+line2 c =
+    c .line2 .ensures ∙ named (c .before .before .before .fit-name2 .ensures) (c .before .behind2 .ensures) ∙ rw (part-to-end (part1 (from2 c)) (end1 (from2 c)))
 
 abbrev back2 : tie.After-second → tie.After-first
 back2 c = from2 (c .before .before)
@@ -85,10 +96,12 @@ returns-2 c =
 
 -- the third
 abbrev from3 : tie.After-line3 → tie.After-second
-from3 c = c .before .before .before .before
+from3 c = c .before .before .before .before .before .before .before
 
 line3 : (c : tie.After-line3) → c .line3 .result ≡ lineOf bName (drop (end2 (from3 c)) (part2 (from3 c)))
-line3 c = c .line3 .ensures ∙ rw (part-to-end (part2 (from3 c)) (end2 (from3 c)))
+unfolding lineOf
+line3 c =
+    c .line3 .ensures ∙ named (c .before .before .before .fit-name3 .ensures) (c .before .behind3 .ensures) ∙ rw (part-to-end (part2 (from3 c)) (end2 (from3 c)))
 
 abbrev back3 : tie.After-third → tie.After-second
 back3 c = from3 (c .before .before)
@@ -116,10 +129,12 @@ returns-3 c =
 
 -- the fourth
 abbrev from4 : tie.After-line4 → tie.After-third
-from4 c = c .before .before .before .before
+from4 c = c .before .before .before .before .before .before .before
 
 line4 : (c : tie.After-line4) → c .line4 .result ≡ lineOf cName (drop (end3 (from4 c)) (part3 (from4 c)))
-line4 c = c .line4 .ensures ∙ rw (part-to-end (part3 (from4 c)) (end3 (from4 c)))
+unfolding lineOf
+line4 c =
+    c .line4 .ensures ∙ named (c .before .before .before .fit-name4 .ensures) (c .before .behind4 .ensures) ∙ rw (part-to-end (part3 (from4 c)) (end3 (from4 c)))
 
 abbrev back4 : tie.After-fourth → tie.After-third
 back4 c = from4 (c .before .before)
@@ -154,13 +169,15 @@ returns-5 c =
 
 -- a sum of lengths lies within the part
 fits : (c : tie.After-first) {n : ℕ} → n ≤ length (part1 c) → Fits w64 n
-fits c i = record { fits = lt-of-le-of-lt i (c .before .before .before .before .before .good .0 .0) }
+fits c i = record { fits = lt-of-le-of-lt i (c .before .before .before .before .before .before .before .good .0 .0) }
 
 pub read-record-spec : {M : Type 1} → statement M
 read-record-spec =
     tie.close
     (tie.spec
     (λ c. search needs)
+    (λ c κs. tt)
+    (λ c κs. tt)
     (λ c κs. tt)
     (λ c. search needs)
     (λ c κs. tt)
@@ -169,6 +186,11 @@ read-record-spec =
     (λ c. room1 (c .before .before))
     (λ c. room1 (c .before .before))
     (λ c. search needs)
+    (λ c κs. tt)
+    (λ c. room1 (c .before .before .before .before))
+    (λ c. room1 (c .before .before .before .before))
+    (λ c. search needs)
+    (λ c κs. tt)
     (λ c κs. tt)
     (λ c. search needs)
     (λ c κs. tt)
@@ -179,6 +201,11 @@ read-record-spec =
     (λ c. room2 (c .before .before))
     (λ c. search needs)
     (λ c κs. tt)
+    (λ c. room2 (c .before .before .before .before))
+    (λ c. room2 (c .before .before .before .before))
+    (λ c. search needs)
+    (λ c κs. tt)
+    (λ c κs. tt)
     (λ c. search needs)
     (λ c κs. tt)
     returns-3
@@ -187,6 +214,11 @@ read-record-spec =
     (λ c. room3 (c .before .before))
     (λ c. room3 (c .before .before))
     (λ c. search needs)
+    (λ c κs. tt)
+    (λ c. room3 (c .before .before .before .before))
+    (λ c. room3 (c .before .before .before .before))
+    (λ c. search needs)
+    (λ c κs. tt)
     (λ c κs. tt)
     (λ c. search needs)
     (λ c κs. tt)
