@@ -179,7 +179,7 @@ TABLES, THEOREM = "proofs/Tables.antt", "proofs/Alarm.antt"
 ALARMS = [
     "read_clears_every_flag", "read_clears_no_flag", "compares_outside_standby", "no_standby_comparison",
     "compares_what_was_never_converted", "read_clears_the_latch", "response_always_clears", "open_diode_waits_for_the_count",
-    "standby_raises_the_count", "reset_keeps_a_flag", "reset_keeps_the_latch", "reset_keeps_the_run_count", "reset_keeps_the_state",
+    "standby_raises_the_count", "reset_keeps_a_flag", "reset_keeps_a_verdict", "reset_keeps_the_latch", "reset_keeps_the_run_count", "reset_keeps_the_state",
 ]
 
 

@@ -23,13 +23,13 @@ use Rattle.replay.specs.declared.play.Turn.the-variants.{Went, Stopped}
 use Rattle.replay.specs.Play.{Ran, Run, Turned, addedFrom, addedOf, answerTo, begun, ended, fitted, put, runFrom, runOf, textOf, turnFrom, turnOf, went}
 
 -- what a turn that went on says of its text and its record
-record Gone (part : List ℕ) (room n k : ℕ) (text : List ℕ) : Type 0 where
-  count : k ≡ length text
-  fits : length text ≤ room
-  long : 19 ≤ n
-  inside : n ≤ length part
+pub record Gone (part : List ℕ) (room n k : ℕ) (text : List ℕ) : Type 0 where
+  pub count : k ≡ length text
+  pub fits : length text ≤ room
+  pub long : 19 ≤ n
+  pub inside : n ≤ length part
 
-gone : (s : State) (part : List ℕ) (room : ℕ) {t : State} {n k : ℕ} → Went t n k ≡ turnOf s part room → Gone part room n k (addedOf s part room)
+pub gone : (s : State) (part : List ℕ) (room : ℕ) {t : State} {n k : ℕ} → Went t n k ≡ turnOf s part room → Gone part room n k (addedOf s part room)
 unfolding turnOf addedOf
 gone s part room {t} {n} {k} e = by (recordOf part) refl e
   where

@@ -56,6 +56,11 @@ pub record Told (s : State) (trace : List ℕ) (room : ℕ) : Type 0 where
 abbrev pub ReplayTold : Type 0
 ReplayTold = (s : State) (trace : List ℕ) (room : ℕ) → Told s trace room
 
+-- code 0 is the end of the trace: every byte of it was used
+abbrev pub AllUsed : Type 0
+AllUsed =
+    (s : State) (trace : List ℕ) (room : ℕ) → runOf s trace room .code ≡ 0 → runOf s trace room .used ≡ length trace
+
 -- how many of the answers have code 6
 unfoldable pub sixes : List Answer → ℕ
 sixes [] = 0
