@@ -16,7 +16,7 @@
 #include <stdlib.h>
 #include <string.h>
 
-static uint64_t seed = 20260, count = 100000;
+static uint64_t seed = 20260, count = 40000;
 
 static bool read_number(const char *text, uint64_t *number)
 {

@@ -1,7 +1,7 @@
 #!/usr/bin/env bash
 # Compares the proved model with the second one, on the recorded traces, on generated ones and on large ones.
 #   tests/compare/run.sh                             the gate's run
-#   tests/compare/run.sh --seed 7 --count 1000000    other traces, and more of them
+#   tests/compare/run.sh --seed 7 --count 1000000    other traces, and more of them; too few leave something uncovered, which fails
 # The model is x86-64 code; on another machine it runs in an emulator. The driver and the second model run on the machine itself.
 set -euo pipefail
 cd "$(dirname "$0")/../.."
