@@ -121,8 +121,8 @@ def reply_of(code, reply, replies, register):
     """What was answered, in words; replies is what the kind replies with."""
     if code == 0 and replies in TABLE.registers:
         return byte_of(reply, register)
-    if code == 0 and replies == "address" and reply % 2:
-        return f"{byte_of(reply, None)}: address {reply // 2}"
+    if code == 0 and replies == "own" and reply % 2:
+        return f"{byte_of(reply, None)}: {TABLE.bus.name} {reply // 2}"
     said = f"refused, code {code}: {TABLE.codes[code]}" if code else TABLE.codes[code]
     return said + (f", reply {reply}" if reply else "")    # document 01 has 0 here
 

@@ -26,6 +26,11 @@ class Table:
             except (LookupError, TypeError, ValueError) as error:
                 sys.exit(f"{path}:{place}: {error}")
 
+    @property
+    def bus(self):
+        """The field that has the bus address."""
+        return next(field for field in self.fields.values() if field.form == "bus")
+
     def add(self, sort, first, *rest):
         if sort in ("record", "answer"):
             put(self.lines, sort, [first, *rest])

@@ -11,7 +11,7 @@ from fractions import Fraction
 from table import LARGEST, USUAL_ADDRESS, Table
 
 TABLE = Table()
-BUS = next(field for field in TABLE.fields.values() if field.form == "bus")
+BUS = TABLE.bus
 RAW = "raw"
 LONGEST = 40    # characters of a number; longer ones are refused unread
 
