@@ -145,8 +145,8 @@ def explained(records, answers):
         else:
             told = " ".join(f"{name}={number}" for name, number in zip(TABLE.lines["record"], record))
         said = reply_of(code, reply, replies, register)
-        bus_lines = ", ".join(f"{name.upper()} {LEVELS[level]}" for name, level in zip(TABLE.lines["answer"][2:], levels))
-        found.append(f"{place:>{width}}  {told} -> {said}; {bus_lines}\n")
+        lines = ", ".join(f"{name.upper()} {LEVELS[level]}" for name, level in zip(TABLE.lines["answer"][2:], levels))
+        found.append(f"{place:>{width}}  {told} -> {said}; {lines}\n")
     return found
 
 

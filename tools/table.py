@@ -38,21 +38,21 @@ class Table:
             self.ending = first
         elif sort == "field":
             least, most, form = rest
-            put(self.fields, first, Field(first, int(least), int(most), form))
+            put(self.fields, first, Field(first, int(least, 0), int(most, 0), form))
         elif sort == "kind":
             word, reply, *fields = rest
-            kind = Kind(int(first), word, reply, [self.fields[name] for name in fields])
+            kind = Kind(int(first, 0), word, reply, [self.fields[name] for name in fields])
             put(self.kinds, kind.number, kind)
             put(self.words, word, kind)
         elif sort == "short":
             put(self.shorts, first, [event.split() for event in " ".join(rest).split("/")])
         elif sort in ("code", "stop"):
-            put(self.codes if sort == "code" else self.stops, int(first), " ".join(rest))
+            put(self.codes if sort == "code" else self.stops, int(first, 0), " ".join(rest))
         elif sort == "register":
             command, name = rest
             put(self.registers.setdefault(first, {}), int(command, 0), name)
         elif sort == "bit":
-            put(self.bits.setdefault(first, {}), int(rest[0]), " ".join(rest[1:]))
+            put(self.bits.setdefault(first, {}), int(rest[0], 0), " ".join(rest[1:]))
         else:
             raise ValueError(f"no such sort: {sort}")
 
