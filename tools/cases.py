@@ -8,6 +8,8 @@
 import sys
 from pathlib import Path
 
+from table import Table
+
 ROOT = Path(__file__).resolve().parent.parent
 CASES = ROOT / "tests" / "cases.txt"
 STDIN = ROOT / "crates" / "cases" / "stdin"
@@ -15,8 +17,8 @@ STDOUT = ROOT / "crates" / "cases" / "stdout"
 
 # A line of the program's input: what to do, then four numbers.
 EVENT, FRESH, SET, CASE = range(4)
-KINDS = {"reset": 0, "send": 1, "write": 2, "read": 3, "receive": 4, "respond": 5, "start": 6, "end": 7}
-FIELDS = {"reset": 0, "send": 2, "write": 3, "read": 2, "receive": 1, "respond": 0, "start": 0, "end": 3, "raw": 4}
+KINDS = {word: kind.number for word, kind in Table().words.items()}
+FIELDS = {word: len(kind.fields) for word, kind in Table().words.items()} | {"raw": 4}
 STATE = ["address", "remotevalue", "localvalue", "runs", "config", "remotehighfine", "remotelowfine", "offsetfine",
          "localhighfine", "locallowfine", "localoffset", "localoffsetfine", "localdiodefound", "localdiodeflag"]
 

@@ -1,0 +1,180 @@
+#!/usr/bin/env python3
+"""Turns a short notation into the records of a trace. With bad input nothing is written."""
+import argparse
+import os
+import re
+import signal
+import sys
+import tempfile
+from fractions import Fraction
+
+from table import LARGEST, USUAL_ADDRESS, Table
+
+TABLE = Table()
+BUS = TABLE.bus
+RAW = "raw"
+LONGEST = 40    # characters of a number; longer ones are refused unread
+
+
+class Bad(Exception):
+    """What is wrong with a line."""
+
+
+def integer(word):
+    if not re.fullmatch(r"-?(0x[0-9a-fA-F]+|0|[1-9][0-9]*)", word):
+        # Document 01 writes commands as bare hex with a leading zero: taken as decimal they would be other registers.
+        raise Bad(f"{word[:LONGEST]}: no number (decimal with no leading zero, or hex behind 0x)")
+    if len(word) > LONGEST or abs(int(word, 0)) > LARGEST:
+        raise Bad(f"{word[:LONGEST]}: too large, a trace holds {-LARGEST} to {LARGEST}")
+    return int(word, 0)
+
+
+def quarters(word):
+    if "." not in word:
+        return integer(word)
+    if len(word) > LONGEST or not re.fullmatch(r"-?[0-9]+\.[0-9]+", word):
+        raise Bad(f"{word[:LONGEST]}: no number of degrees")
+    found = Fraction(word) * 4
+    if found.denominator != 1:
+        raise Bad(f"{word}: no whole number of quarters")
+    return int(found)
+
+
+def register(sort, word):
+    for command, name in TABLE.registers[sort].items():
+        if name == word:
+            return command
+    if re.fullmatch(r"[a-zA-Z].*", word):
+        raise Bad(f"{word[:LONGEST]}: no register to {sort} has this name")
+    return integer(word)
+
+
+def field_of(field, word):
+    if field.form == "flag":
+        if word != field.name:
+            raise Bad(f"{word[:LONGEST]}: only '{field.name}' may stand here")
+        return field.most
+    if field.form in TABLE.registers:
+        found = register(field.form, word)
+    else:
+        found = quarters(word) if field.form == "quarters" else integer(word)
+    if not field.least <= found <= field.most:
+        raise Bad(f"{word}: {field.name} is {field.least} to {field.most}, only '{RAW}' goes beyond")
+    return found
+
+
+def shape(kind):
+    """A kind as it is written."""
+    told = [f"[{f.name}]" if f.form == "flag" else f.name.upper() for f in kind.fields if f.form != "bus"]
+    return " ".join([kind.word, *told])
+
+
+def record(word, words, address):
+    if word not in TABLE.words:
+        raise Bad(f"{word[:LONGEST]}: no such word")
+    kind = TABLE.words[word]
+    written = [field for field in kind.fields if field.form != "bus"]
+    needed = sum(field.form != "flag" for field in written)
+    if not needed <= len(words) <= len(written):
+        raise Bad(f"'{shape(kind)}' wanted, {len(words)} behind '{word}' found")
+    left = list(words)
+    found = [address if f.form == "bus" else field_of(f, left.pop(0)) if left else f.least for f in kind.fields]
+    return [kind.number, *found, 0, 0, 0][:4]
+
+
+def records(text, address):
+    """The records of a notation, and the line and reason of what is wrong in it."""
+    found, wrong = [], []
+    for place, line in enumerate(text.split("\n"), 1):
+        words = line.partition("#")[0].split()
+        if not words:
+            continue
+        word, *rest = words
+        try:
+            if word in (BUS.name, RAW):
+                wanted = 1 if word == BUS.name else len(TABLE.lines["record"])
+                if len(rest) != wanted:
+                    raise Bad(f"{wanted} behind '{word}' wanted, {len(rest)} found")
+                if word == RAW:
+                    found.append([integer(one) for one in rest])
+                else:
+                    address = field_of(BUS, rest[0])
+            else:
+                events = TABLE.shorts.get(word, [[word]])
+                for event, behind in zip(events, [[]] * (len(events) - 1) + [rest]):
+                    found.append(record(event[0], event[1:] + behind, address))
+        except Bad as bad:
+            wrong.append((place, str(bad)))
+    return found, wrong
+
+
+def written(found):
+    return "".join(f"{name}={number}\n" for numbers in found for name, number in zip(TABLE.lines["record"], numbers))
+
+
+def put(path, text):
+    """Writes a file whole or not at all: whoever reads it never sees a part."""
+    path = os.path.realpath(path)
+    there = os.path.exists(path)
+    if there and not os.path.isfile(path):
+        raise OSError("not a plain file")
+    umask = os.umask(0)
+    os.umask(umask)
+    mode = os.stat(path).st_mode & 0o777 if there else 0o666 & ~umask
+    handle, part = tempfile.mkstemp(dir=os.path.dirname(path))
+    try:
+        with os.fdopen(handle, "w", newline="\n") as file:
+            file.write(text)
+        os.chmod(part, mode)
+        os.replace(part, path)
+    except BaseException:
+        os.unlink(part)
+        raise
+
+
+def help_text():
+    shorts = [f"{word} ...   for: {' / '.join(' '.join(event) for event in events)} ..." for word, events in TABLE.shorts.items()]
+    names = [f"registers to {sort}: {', '.join(names.values())}" for sort, names in TABLE.registers.items()]
+    lines = ["An event to a line, # begins a comment; numbers are decimal or 0x hex, and a register may be named.", ""]
+    lines += [f"  {shape(kind)}" for kind in TABLE.kinds.values()] + [f"  {line}" for line in shorts]
+    lines += [f"  {RAW} {' '.join(TABLE.lines['record']).upper()}", f"  {BUS.name} N   for the lines behind it", ""]
+    lines += [f"{f.name.upper()}: plain quarters, or degrees with a point (85.25)" for f in TABLE.fields.values() if f.form == "quarters"]
+    return "\n".join(lines + names)
+
+
+def main():
+    parser = argparse.ArgumentParser(description=__doc__, epilog=help_text(), formatter_class=argparse.RawDescriptionHelpFormatter)
+    parser.add_argument("notation", nargs="?", default="-", help="a file; - or none is standard input")
+    parser.add_argument("-o", metavar="FILE", dest="out", help="where the records go, instead of standard output")
+    parser.add_argument("--address", metavar="N", default=str(USUAL_ADDRESS), help=f"the bus address, {USUAL_ADDRESS} where none is given")
+    given = parser.parse_args()
+    try:
+        address = field_of(BUS, given.address)
+    except Bad as bad:
+        sys.exit(f"--address {bad}")
+    named = "standard input" if given.notation == "-" else given.notation
+    try:
+        if given.notation == "-":
+            data = sys.stdin.buffer.read()
+        else:
+            with open(given.notation, "rb") as file:
+                data = file.read()
+    except OSError as error:
+        sys.exit(f"{named}: {error.strerror}")
+    found, wrong = records(data.decode(errors="replace"), address)
+    if wrong:
+        sys.exit("\n".join(f"{named}:{place}: {what}" for place, what in wrong))
+    if given.out is None:
+        sys.stdout.write(written(found))
+        return
+    try:
+        if given.notation != "-" and os.path.exists(given.out) and os.path.samefile(given.out, given.notation):
+            raise OSError("this is the notation itself")
+        put(given.out, written(found))
+    except OSError as error:
+        sys.exit(f"{given.out}: {error.strerror or error}")
+
+
+if __name__ == "__main__":
+    signal.signal(signal.SIGPIPE, signal.SIG_DFL)    # a reader that stops early is no error
+    main()
