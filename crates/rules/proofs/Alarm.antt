@@ -46,7 +46,7 @@ use Rattle.rules.specs.Conversion.{converted, convertedOf}
 use Rattle.rules.specs.Registers.{afterRead, readAtPointer, readingOf, replyOf, withStored}
 use Rattle.rules.specs.Setters.{withBusy, withConfig, withLatch, withPointer, withSensors}
 use Rattle.rules.specs.Write.{bothRecompared, comparedIf, latchedByFaults, oneShot, standbyCompared, stoppedIf, stored, writeCompares, written, writtenTo}
-use Rattle.rules.specs.Alarm.{Deed, Finding, Flag, FlagsStand, Happened, History, LatchStands, Side, SpellsCount, View, answerFor, beyond, clears, readsThatClosed, comparesAt, everConverted as ever, deedIf, finds, findingOf, findsLimit, flagAt, fiveFlags, historyFrom, historyOf, inARow, isFault, isStatusRead, latched, latest, lineFree, needs, withEvent, spellsOpened, orElse, outcome, placeOf, running, stands, stateOf, withStep, viewOf, writeDeed}
+use Rattle.rules.specs.Alarm.{Deed, Finding, Flag, FlagsStand, Happened, History, LatchStands, Side, SpellsCount, View, answerFor, beyond, clears, readsThatClosed, comparesAt, everConverted as ever, deedIf, finds, findingOf, findsLimit, flagAt, fiveFlags, historyFrom, historyOf, inARow, isFault, isStatusRead, latched, latest, lineFree, measures, needs, withEvent, spellsOpened, orElse, outcome, placeOf, running, stands, stateOf, withStep, viewOf, writeDeed}
 use Rattle.rules.specs.Alarm.Side.{Above, Below}
 use Rattle.rules.specs.Alarm.Flag.{Limit, OpenDiode}
 use Rattle.rules.specs.Alarm.Finding.{MadeNone, FoundNothing, FoundFault}
@@ -147,39 +147,84 @@ pub record Agrees (s : State) (h : History) : Type 0 where
 abbrev pub event : Deed → View → ℕ → Happened
 event d v reply = record { deed = d; seen = v; reply = reply }
 
--- events that compare nothing, read no status and ask for no alert response
-abbrev calm : Deed → Bool
-calm Idle = true
-calm Began = true
-calm CutOff = true
-calm (Measured broken) = false
-calm Compared = false
-calm StatusRead = false
-calm (Asked free) = false
+-- events that compare nothing and read no status
+abbrev still : Deed → Bool
+still Idle = true
+still Began = true
+still CutOff = true
+still (Measured broken) = false
+still Compared = false
+still StatusRead = false
+still (Asked free) = true
 
+finds-none : (d : Deed) → still d ≡ true → (f : Flag) (v : View) (reply : ℕ) → findingOf f (event d v reply) ≡ MadeNone
+finds-none Idle e (Limit ch side) v reply = refl
+finds-none Idle e OpenDiode v reply = refl
+finds-none Began e (Limit ch side) v reply = refl
+finds-none Began e OpenDiode v reply = refl
+finds-none CutOff e (Limit ch side) v reply = refl
+finds-none CutOff e OpenDiode v reply = refl
+finds-none (Measured broken) e f v reply = no e
+finds-none Compared e f v reply = no e
+finds-none StatusRead e f v reply = no e
+finds-none (Asked free) e (Limit ch side) v reply = refl
+finds-none (Asked free) e OpenDiode v reply = refl
+
+still-unread : (d : Deed) → still d ≡ true → (isStatusRead d ≡ false) × (measures d ≡ false)
+still-unread Idle e = (refl, refl)
+still-unread Began e = (refl, refl)
+still-unread CutOff e = (refl, refl)
+still-unread (Measured broken) e = no e
+still-unread Compared e = no e
+still-unread StatusRead e = no e
+still-unread (Asked free) e = (refl, refl)
+
+-- such an event leaves all but the latch
 module _ {lc rc : Bool} {n : ℕ} {latch : Bool} {l r : Marks} {h : History} (g : Rest lc rc n latch l r h) (v : View) (reply : ℕ) where
-  rest-calm : (d : Deed) → calm d ≡ true → Rest lc rc n latch l r (event d v reply ∷ h)
-  unfolding ever inARow latched
-  rest-calm Idle e = record { local-conv = g .local-conv; remote-conv = g .remote-conv; counted = g .counted; latching = g .latching; local-high = quiet (g .local-high) (event Idle v reply) refl refl; local-low = quiet (g .local-low) (event Idle v reply) refl refl; remote-high = quiet (g .remote-high) (event Idle v reply) refl refl; remote-low = quiet (g .remote-low) (event Idle v reply) refl refl; broken = quiet (g .broken) (event Idle v reply) refl refl; plain = g .plain }
-  rest-calm Began e = record { local-conv = g .local-conv; remote-conv = g .remote-conv; counted = g .counted; latching = g .latching; local-high = quiet (g .local-high) (event Began v reply) refl refl; local-low = quiet (g .local-low) (event Began v reply) refl refl; remote-high = quiet (g .remote-high) (event Began v reply) refl refl; remote-low = quiet (g .remote-low) (event Began v reply) refl refl; broken = quiet (g .broken) (event Began v reply) refl refl; plain = g .plain }
-  rest-calm CutOff e = record { local-conv = g .local-conv; remote-conv = g .remote-conv; counted = g .counted; latching = g .latching; local-high = quiet (g .local-high) (event CutOff v reply) refl refl; local-low = quiet (g .local-low) (event CutOff v reply) refl refl; remote-high = quiet (g .remote-high) (event CutOff v reply) refl refl; remote-low = quiet (g .remote-low) (event CutOff v reply) refl refl; broken = quiet (g .broken) (event CutOff v reply) refl refl; plain = g .plain }
-  rest-calm (Measured b) e = no e
-  rest-calm Compared e = no e
-  rest-calm StatusRead e = no e
-  rest-calm (Asked free) e = no e
+  rest-still : (d : Deed) → still d ≡ true → (now : Bool) → now ≡ latched (event d v reply ∷ h) → Rest lc rc n now l r (event d v reply ∷ h)
+  unfolding ever inARow
+  rest-still d e now is =
+      let x = event d v reply in
+      let unread = still-unread d e .0 in
+      let unmeasured = still-unread d e .1 in
+      record {
+        local-conv = rw unmeasured (g .local-conv);
+        remote-conv = rw unmeasured (g .remote-conv);
+        counted = rw unmeasured (g .counted);
+        latching = is;
+        local-high = quiet (g .local-high) x (finds-none d e (Limit Local Above) v reply) unread;
+        local-low = quiet (g .local-low) x (finds-none d e (Limit Local Below) v reply) unread;
+        remote-high = quiet (g .remote-high) x (finds-none d e (Limit Remote Above) v reply) unread;
+        remote-low = quiet (g .remote-low) x (finds-none d e (Limit Remote Below) v reply) unread;
+        broken = quiet (g .broken) x (finds-none d e OpenDiode v reply) unread;
+        plain = g .plain;
+      }
+
+  -- and the latch too, where it is no alert response
+  rest-idle : Rest lc rc n latch l r (event Idle v reply ∷ h)
+  unfolding latched
+  rest-idle = rest-still Idle refl latch (g .latching)
+
+  rest-began : Rest lc rc n latch l r (event Began v reply ∷ h)
+  unfolding latched
+  rest-began = rest-still Began refl latch (g .latching)
+
+  rest-cut-off : Rest lc rc n latch l r (event CutOff v reply ∷ h)
+  unfolding latched
+  rest-cut-off = rest-still CutOff refl latch (g .latching)
 
 -- nothing of it changed
 idle : (s : State) (h : History) (v : View) (reply : ℕ) → Agrees s h → Agrees s (event Idle v reply ∷ h)
 unfolding running
-idle s h v reply g = record { busy = g .busy; rest = rest-calm (g .rest) v reply Idle refl }
+idle s h v reply g = record { busy = g .busy; rest = rest-idle (g .rest) v reply }
 
 began : (s : State) (h : History) (v : View) (reply : ℕ) → Agrees s h → Agrees (withBusy s true) (event Began v reply ∷ h)
 unfolding running
-began s h v reply g = record { busy = refl; rest = rest-calm (g .rest) v reply Began refl }
+began s h v reply g = record { busy = refl; rest = rest-began (g .rest) v reply }
 
 broke : (s : State) (h : History) (v : View) (reply : ℕ) → Agrees s h → Agrees (withBusy s false) (event CutOff v reply ∷ h)
 unfolding running
-broke s h v reply g = record { busy = refl; rest = rest-calm (g .rest) v reply CutOff refl }
+broke s h v reply g = record { busy = refl; rest = rest-cut-off (g .rest) v reply }
 
 -- ---- Truth tables ----
 
@@ -467,9 +512,6 @@ respond-noted s h g = by (alertLow s) refl
     free : Bool
     free = lineFree (viewOf s)
 
-    rest-asked : (latch : Bool) (v : View) (reply : ℕ) → latch ≡ latched (event (Asked free) v reply ∷ h) → Rest (s .local .converted) (s .remote .converted) (s .runs) latch (s .local .marks) (s .remote .marks) (event (Asked free) v reply ∷ h)
-    rest-asked latch v reply e = record { local-conv = g .rest .local-conv; remote-conv = g .rest .remote-conv; counted = g .rest .counted; latching = e; local-high = quiet (g .rest .local-high) (event (Asked free) v reply) refl refl; local-low = quiet (g .rest .local-low) (event (Asked free) v reply) refl refl; remote-high = quiet (g .rest .remote-high) (event (Asked free) v reply) refl refl; remote-low = quiet (g .rest .remote-low) (event (Asked free) v reply) refl refl; broken = quiet (g .rest .broken) (event (Asked free) v reply) refl refl; plain = g .rest .plain }
-
     low : alertLow s ≡ latched h && free
     low = rw (← (g .rest .latching)) (free-line (s .latch) (masked (s .config)) (choosesTherm2 (s .config)))
 
@@ -482,10 +524,10 @@ respond-noted s h g = by (alertLow s) refl
     by : (t : Bool) → alertLow s ≡ t → Noted h (cond t (answerOf 0 (responseOf (s .given .address)) (responded s)) (refused 3 s)) (Asked free)
     by true e =
         let is : latched h && free ≡ true = sym low ∙ e in
-        record { busy = g .busy; rest = rest-asked _ _ _ (rw (is, any-stands s h (g .rest), g .rest .latching) (kept (latched h) (any (map (λ (f : Flag). stands f h) fiveFlags)))) }
+        record { busy = g .busy; rest = rest-still (g .rest) _ _ (Asked free) refl _ (rw (is, any-stands s h (g .rest), g .rest .latching) (kept (latched h) (any (map (λ (f : Flag). stands f h) fiveFlags)))) }
     by false e =
         let is : latched h && free ≡ false = sym low ∙ e in
-        record { busy = g .busy; rest = rest-asked _ _ _ (rw is (g .rest .latching)) }
+        record { busy = g .busy; rest = rest-still (g .rest) _ _ (Asked free) refl _ (rw is (g .rest .latching)) }
 
 start-noted : (s : State) (h : History) → Agrees s h → Noted h (startOf s) (deedIf (not (standby (s .config)) && not (running h)) Began)
 unfolding startOf
@@ -568,7 +610,7 @@ none-agrees s h g p q =
     let v = viewOf (latchedByFaults s) in
     record {
       busy = g .busy;
-      rest = subst (λ (b : Bool). Rest (s .local .converted) (s .remote .converted) (s .runs) b (s .local .marks) (s .remote .marks) (event Idle v 0 ∷ h)) (sym (none-found s p q)) (rest-calm (g .rest) v 0 Idle refl);
+      rest = subst (λ (b : Bool). Rest (s .local .converted) (s .remote .converted) (s .runs) b (s .local .marks) (s .remote .marks) (event Idle v 0 ∷ h)) (sym (none-found s p q)) (rest-idle (g .rest) v 0);
     }
 
 -- in standby: the comparison, of every channel or, where none was converted, of none
