@@ -112,7 +112,7 @@ def written(found):
     return "".join(f"{name}={number}\n" for numbers in found for name, number in zip(TABLE.lines["record"], numbers))
 
 
-def put(path, text):
+def put(path, data):
     """Writes a file whole or not at all: whoever reads it never sees a part."""
     path = os.path.realpath(path)
     there = os.path.exists(path)
@@ -123,8 +123,8 @@ def put(path, text):
     mode = os.stat(path).st_mode & 0o777 if there else 0o666 & ~umask
     handle, part = tempfile.mkstemp(dir=os.path.dirname(path))
     try:
-        with os.fdopen(handle, "w", newline="\n") as file:
-            file.write(text)
+        with os.fdopen(handle, "wb") as file:
+            file.write(data)
         os.chmod(part, mode)
         os.replace(part, path)
     except BaseException:
@@ -170,7 +170,7 @@ def main():
     try:
         if given.notation != "-" and os.path.exists(given.out) and os.path.samefile(given.out, given.notation):
             raise OSError("this is the notation itself")
-        put(given.out, written(found))
+        put(given.out, written(found).encode())
     except OSError as error:
         sys.exit(f"{given.out}: {error.strerror or error}")
 
