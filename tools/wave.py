@@ -7,6 +7,7 @@ and as the chip compares it. Exit code 1: nothing was written. 3: gnuplot is mis
 """
 import argparse
 import os
+import re
 import shutil
 import subprocess
 import sys
@@ -21,6 +22,7 @@ TABLE = explain.TABLE
 COMMANDS = {name: command for command, name in TABLE.registers["read"].items()}
 MOST = 2000          # records; each event replays all before it
 WORDY = 40           # up to so many events the picture has each in words
+LONGEST = 42         # characters of an event in words
 LOW_BYTE = "-low-byte"
 SHIFT = 64           # degrees by which the extended range is shifted
 CHANNELS = ["remote", "local"]
@@ -168,10 +170,10 @@ def block(name, rows):
 
 
 def words_of(record, code):
-    """An event in few words."""
-    if not explain.is_event(record):
-        return " ".join(map(str, record)) + f" (code {code})"
-    return explain.event_of(record, code != 0) + (f" (code {code})" if code else "")
+    """An event in few words: without what is said twice."""
+    text = explain.event_of(record, code != 0) if explain.is_event(record) else "raw " + " ".join(map(str, record))
+    text = re.sub(r" \([^)]*\)", "", text)
+    return f"code {code}: {text}" if code else text
 
 
 def picture(records, shown, named):
@@ -202,18 +204,19 @@ def picture(records, shown, named):
              for row, (_, held, colour) in enumerate(bars) for low, high in spans(held)]
 
     told = [f"set terminal pngcairo noenhanced size {width},{height} font 'sans,10' background '#ffffff'"]
-    told += block("degrees", rows) + block("bars", boxes) + block("marks", [(time, -MARKS.index(mark), MARKS.index(mark)) for time, mark in marks])
-    step = max(1, -(-count // 25))
+    told += block("degrees", rows) + block("bars", boxes) + block("marks", [(time, -MARKS.index(mark)) for time, mark in marks])
+    step = next(step for step in (1, 2, 5, 10, 20, 50, 100, 200) if count <= 15 * step)
     told += [f"set multiplot title {quoted(f'ADT7461 model: {named}, {count} events')} font 'sans,13'",
              "set lmargin at screen 0.155", "set rmargin at screen 0.83", f"set xrange [0:{count + 1}]",
-             "set key outside right center Left reverse samplen 2.5 spacing 1.25", "set border 3 lc rgb '#808080'", "set tics nomirror out textcolor rgb '#000000'",
+             "set border 3 lc rgb '#808080'", "set tics nomirror out textcolor rgb '#000000'",
              f"set xtics {step} format ''", "set grid xtics ytics lc rgb '#e4e4e4' lt 1 lw 1", "set style fill solid 1.0 noborder"]
     if wordy:
         told += [f"set arrow from first {time}, graph 0 to first {time}, graph 1 nohead lc rgb '#909090' dt 3 back" for time, _ in marks]
 
     top = head
     for at, panel in enumerate(panels):
-        told += [f"set tmargin at screen {1 - top / height:.5f}", f"set bmargin at screen {1 - (top + panel) / height:.5f}"]
+        told += [f"set tmargin at screen {1 - top / height:.5f}", f"set bmargin at screen {1 - (top + panel) / height:.5f}",
+                 f"set key at screen 0.84, {1 - (top + panel / 2) / height:.5f} left center Left reverse samplen 2 spacing 1.25"]
         top += panel + gap
         if at < len(CHANNELS):
             base = 2 + at * len(PARTS)
@@ -232,13 +235,15 @@ def picture(records, shown, named):
         else:
             tics = ", ".join(f"{quoted(name)} {-row}" for row, name in enumerate(MARKS))
             if wordy:
-                words = [f"{time} {words_of(record, shown[time].code)}"[:48] for time, record in enumerate(records, 1)]
+                words = [f"{time} {words_of(record, shown[time].code)}"[:LONGEST] for time, record in enumerate(records, 1)]
                 named_tics = ["'power-on' 0", *(f"{quoted(text)} {time}" for time, text in enumerate(words, 1))]
-                told += [f"set xtics rotate by -35 left ({', '.join(named_tics)})"]
+                told += [f"set xtics rotate by {-35 if count <= 20 else -60} left ({', '.join(named_tics)})"]
             else:
                 told += ["set xlabel 'event'", f"set xtics {step} format '%g'"]
             told += [f"set yrange [{-len(MARKS) + 0.5}:0.5]", f"set ytics ({tics})",
-                     "plot $marks using 1:2 with points pt 7 ps 1.3 lc rgb '#205080' title 'event'"]
+                     # Dots of a long trace would run into one another.
+                     "plot $marks using 1:2 with points pt 7 ps 1.3 lc rgb '#205080' notitle" if wordy else
+                     "plot $marks using 1:($2 - 0.3):(0):(0.6) with vectors nohead lw 1 lc rgb '#205080' notitle"]
     return "\n".join([*told, "unset multiplot", ""])
 
 

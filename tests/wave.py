@@ -1,0 +1,219 @@
+#!/usr/bin/env python3
+"""Tries tools/wave.py: its VCD is parsed back and held to recorded answers and to flags and degrees worked out by hand. Needs the library, as
+examples/run.sh does. The last line is 'N passed, M failed'.
+"""
+import os
+import pty
+import re
+import shutil
+import subprocess
+import sys
+import tempfile
+from pathlib import Path
+
+ROOT = Path(__file__).resolve().parent.parent
+TRACES = ROOT / "tests" / "traces"
+passed, failed = 0, 0
+
+FLAGS = ["local_high", "local_low", "remote_high", "remote_low", "open"]
+DEGREES = [f"{channel}_{part}" for channel in ("local", "remote") for part in ("value", "high_limit", "low_limit", "therm_limit")]
+
+
+def check(name, wrong):
+    """Counts one check: `wrong` lists what it found."""
+    global passed, failed
+    failed += bool(wrong)
+    passed += not wrong
+    print(f"{'FAILED' if wrong else 'ok'} {name}")
+    for line in wrong[:20]:
+        print(f"    {line}")
+
+
+def differs(have, want):
+    return [] if have == want else [f"wanted {want!r}", f"found  {have!r}"]
+
+
+def run(*words, **more):
+    """Exit code, standard output and standard error."""
+    done = subprocess.run([sys.executable, ROOT / "tools" / "wave.py", *words], stdin=subprocess.DEVNULL, capture_output=True, **more)
+    return done.returncode, done.stdout.decode(), done.stderr.decode()
+
+
+def parsed(path):
+    """A VCD's signals with sort and width, and each signal's value at each time up to the last one."""
+    head, _, body = path.read_text().partition("$enddefinitions $end\n")
+    names = {sign: (name, sort, int(width)) for sort, width, sign, name in re.findall(r"\$var (\w+) (\d+) (\S+) (\S+) \$end", head)}
+    now, found = {}, []
+    for line in body.splitlines():
+        if line.startswith("#"):
+            while len(found) < int(line[1:]):
+                found.append(dict(now))
+        elif not line.startswith("$"):
+            value, sign = line.split() if line[0] in "br" else (line[0], line[1:])
+            name = names[sign][0]
+            number = value[1:] if line[0] in "br" else value
+            now[name] = None if number == "x" else float(number) if line[0] == "r" else int(number, 2)
+    return {name: (sort, width) for name, sort, width in names.values()}, found, head
+
+
+def answers(path):
+    numbers = [int(number) for number in re.findall(r"=(\d+)", path.read_text())]
+    return [tuple(numbers[at:at + 4]) for at in range(0, len(numbers), 4)]
+
+
+def answered(times):
+    return [(one["code"], one["reply"], one["ALERT"], one["THERM"]) for one in times[1:]]
+
+
+def set_flags(times):
+    return [" ".join(name for name in [*FLAGS, "busy"] if one[name]) for one in times]
+
+
+def is_png(path):
+    data = path.read_bytes()
+    return data.startswith(b"\x89PNG\r\n\x1a\n") and data.endswith(b"IEND\xaeB`\x82")
+
+
+# Trace, address, and the flags at power-on and after each event.
+RECORDED = [
+    ("k11", 76, ["", "busy", "remote_high", "remote_high", "remote_high", "remote_high busy", "remote_high", "", "", "", ""]),
+    ("standby-high-limit", 76, ["", "busy", "", "", "local_high", "local_high", "local_high", "", "", ""]),
+]
+
+
+def standby(room):
+    trace = room / "standby.trace"
+    subprocess.run([sys.executable, ROOT / "tools" / "trace.py", ROOT / "examples" / "standby.txt", "-o", trace], check=True)
+    done = run(trace)
+    drawn = bool(shutil.which("gnuplot"))
+    check("the standby case is done, and in a pipe nothing is said", differs(done, (0, "", "")) if drawn else differs(done[0], 3))
+    signals, times, head = parsed(room / "standby.vcd")
+    wanted = {name: ("wire", 1) for name in ["ALERT", "THERM", *FLAGS, "busy"]} | {name: ("real", 64) for name in [*DEGREES, "hysteresis"]}
+    check("its signals", differs(signals, wanted | {"code": ("wire", 8), "reply": ("wire", 8)}))
+    check("its head says what it is", [part for part in ("$comment", "standby.trace", "$timescale 1 ns $end", "One unit of time is one event")
+                                       if part not in head])
+    check("its answers", differs(answered(times), [(0, 0, 1, 1), (0, 0, 1, 1), (0, 0, 1, 1), (0, 0, 0, 1), (0, 16, 0, 1)]))
+    check("power-on answers nothing, and both lines are high", differs([times[0][name] for name in ("code", "reply", "ALERT", "THERM")], [None, None, 1, 1]))
+    check("its flags", differs(set_flags(times), ["", "busy", "", "", "remote_high", "remote_high"]))
+    check("its degrees", differs([(one["local_value"], one["remote_value"], one["remote_high_limit"]) for one in times],
+                                 [(0, 0, 85), (0, 0, 85), (20, 50, 85), (20, 50, 85), (20, 50, 40), (20, 50, 40)]))
+    if drawn:
+        check("its picture", [] if is_png(room / "standby.png") else ["no PNG"])
+        check("nothing else is left", differs(sorted(one.name for one in room.iterdir()), ["standby.png", "standby.trace", "standby.vcd"]))
+    shown = ROOT / "docs" / "standby.png"
+    check("the picture in docs is a PNG under 100 KB", [] if is_png(shown) and shown.stat().st_size < 100000 else ["it is not"])
+
+
+def recorded(room):
+    for name, address, flags in RECORDED:
+        code, _, said = run(TRACES / f"{name}.trace", "--address", str(address), "-o", room / name)
+        _, times, _ = parsed(room / f"{name}.vcd")
+        check(f"{name}: the recorded answers", differs(answered(times), answers(TRACES / f"{name}.answers")))
+        check(f"{name}: flags by hand", differs(set_flags(times), flags))
+
+
+def notation(room, text, *words):
+    """The VCD's times of a notation."""
+    source, trace = room / "one.txt", room / "one.trace"
+    source.write_text(text)
+    subprocess.run([sys.executable, ROOT / "tools" / "trace.py", source, "-o", trace, *words], check=True)
+    code, _, said = run(trace, *words)
+    return parsed(room / "one.vcd")[1] if code in (0, 3) else sys.exit(said)
+
+
+def by_hand(room):
+    # 85 is 21 in the extended range; a value goes on standing as it was stored, and is read 64 lower until the next conversion.
+    times = notation(room, "convert 20 50.25\nwrite configuration 4\nconvert -10 -20.5\nwrite remote-high-limit 80\n"
+                           "write remote-high-limit-low-byte 0xc0\nwrite configuration 0\nreset")
+    have = [(one["local_value"], one["remote_value"], one["local_high_limit"], one["remote_low_limit"], one["local_therm_limit"]) for one in times]
+    check("degrees in both ranges", differs(have, [(0, 0, 85, 0, 85)] * 2 + [(20, 50.25, 85, 0, 85)] + [(-44, -13.75, 21, -64, 21)] * 2
+                                            + [(-10, -20.5, 21, -64, 21)] * 3 + [(54, 43.5, 85, 0, 85), (0, 0, 85, 0, 85)]))
+    check("a remote limit has quarters", differs([one["remote_high_limit"] for one in times], [85] * 3 + [21] * 3 + [16, 16.75, 80.75, 85]))
+    # 52, 48 and so on differ from one another, so no limit stands in another's place.
+    lines = [("local-high-limit", 52), ("local-low-limit", 3), ("local-therm-limit", 60), ("remote-high-limit", 53), ("remote-low-limit", 4),
+             ("remote-therm-limit", 61), ("hysteresis", 7)]
+    times = notation(room, "".join(f"write {name} {number}\n" for name, number in lines) + "write remote-low-limit-low-byte 0x40", "--address", "77")
+    check("each limit at address 77", differs({name: times[-1][name.replace("-", "_")] for name, _ in lines}, dict(lines) | {"remote-low-limit": 4.25}))
+    times = notation(room, "convert -5 -5.0 open\nconvert 100 100.0\nstatus\nconvert 20 20.0\nstatus")
+    check("all five flags", differs(set_flags(times), ["", "busy", "local_low remote_low open", "local_low remote_low open busy", " ".join(FLAGS),
+                                                       "local_high remote_high", "local_high remote_high busy", "local_high remote_high", ""]))
+    check("an empty trace has the power-on state", differs(len(notation(room, "")), 1))
+
+
+RECORD = "kind=6\na=0\nb=0\nc=0\n"
+# Text of a trace, and the message behind the file's name.
+BAD = [
+    (RECORD + "kind=03\na=76\nb=2\nc=0\n", ":5: kind=NUMBER wanted, 'kind=03' found"),
+    (RECORD + "kind=3\na=76\n", ":6: cut short: b=NUMBER wanted behind this line"),
+    (RECORD + "kind=3", ":5: the last line has no end"),
+    (RECORD * 2001, ": 2001 records, at most 2000 are taken: each event replays all before it"),
+]
+
+
+def bad(room):
+    for text, wanted in BAD:
+        trace = room / "bad.trace"
+        trace.write_text(text)
+        have = run(trace), sorted(one.name for one in room.iterdir())
+        check(f"refused: {wanted}", differs(have, ((1, "", f"{trace}{wanted}\n"), ["bad.trace"])))
+    missing = room / "none.trace"
+    check("refused: no such file", differs(run(missing), (1, "", f"{missing}: No such file or directory\n")))
+    code, _, said = run(TRACES / "k11.trace", "-o", room / "none" / "k11")
+    check("refused: no such folder", [] if code == 1 and "No such file or directory" in said and "Traceback" not in said else [said])
+    check("refused: address 78", differs(run(TRACES / "k11.trace", "--address", "78", "-o", room / "k11")[0], 2))
+    check("none of them left a file", differs(sorted(one.name for one in room.iterdir()), ["bad.trace"]))
+    # Old files stay as they are where the new ones are not made.
+    for ending in "vcd", "png":
+        (room / f"bad.{ending}").write_text("old")
+    run(room / "bad.trace")
+    check("old files stay", differs([(room / f"bad.{ending}").read_text() for ending in ("vcd", "png")], ["old", "old"]))
+
+
+def without_gnuplot(room):
+    """A PATH with all but gnuplot."""
+    path = room / "bin"
+    path.mkdir()
+    for folder in os.environ["PATH"].split(":")[::-1]:
+        for one in Path(folder).glob("*") if Path(folder).is_dir() else []:
+            if not one.name.startswith("gnuplot"):
+                (path / one.name).unlink(missing_ok=True)
+                (path / one.name).symlink_to(one)
+    code, _, said = run(TRACES / "k11.trace", "-o", room / "k11", env=os.environ | {"PATH": str(path)})
+    check("without gnuplot its package is named", [] if code == 3 and "gnuplot-nox" in said else [f"{code} {said}"])
+    _, times, _ = parsed(room / "k11.vcd")
+    check("without gnuplot the VCD is whole and no picture is left", differs((answered(times), (room / "k11.png").exists()),
+                                                                             (answers(TRACES / "k11.answers"), False)))
+
+
+def names(room):
+    """A trace's name is shown, and is no command to gnuplot and no end of the VCD's comment."""
+    trace = room / "it's `touch x` $end \"$(touch y)\".trace"
+    trace.write_text(RECORD)
+    code, _, said = run(trace, cwd=room)
+    _, times, _ = parsed(room / f"{trace.stem}.vcd")
+    left = [one.name for one in room.iterdir() if one.name in "xy"]
+    check("a strange name", [] if code in (0, 3) and len(times) == 2 and not left and "$end" not in (room / f"{trace.stem}.vcd").read_text().split("\n")[1]
+          else [f"{code} {said} {left}"])
+
+
+def terminal(room):
+    trace = room / "long.trace"
+    trace.write_text(RECORD * 120)
+    ours, theirs = pty.openpty()
+    done = subprocess.run([sys.executable, ROOT / "tools" / "wave.py", trace], stdin=subprocess.DEVNULL, stdout=subprocess.PIPE, stderr=theirs)
+    os.close(theirs)
+    said = os.read(ours, 65536).decode()
+    os.close(ours)
+    check("a terminal is told how far it is", [] if done.stdout == b"" and "50 of 120 events" in said and "100 of 120 events" in said else [repr(said)])
+    check("and a pipe is not", differs(run(trace)[2], "") if shutil.which("gnuplot") else [])
+
+
+def main():
+    for part in standby, recorded, by_hand, bad, without_gnuplot, names, terminal:
+        with tempfile.TemporaryDirectory() as room:
+            part(Path(room))
+    print(f"{passed} passed, {failed} failed")
+    sys.exit(1 if failed else 0)
+
+
+main()
