@@ -185,6 +185,44 @@ def without_gnuplot(room):
                                                                              (answers(TRACES / "k11.answers"), False)))
 
 
+def told(room, text):
+    """What gnuplot is told, by name of the block, and all of it."""
+    stub = room / "stub"
+    stub.mkdir(exist_ok=True)
+    (stub / "gnuplot").write_text(f"#!/bin/sh\ncat >{room}/told\nprintf '\\211PNG'\n")
+    (stub / "gnuplot").chmod(0o755)
+    source, trace = room / "one.txt", room / "one.trace"
+    source.write_text(text)
+    subprocess.run([sys.executable, ROOT / "tools" / "trace.py", source, "-o", trace], check=True)
+    run(trace, env=os.environ | {"PATH": f"{stub}:{os.environ['PATH']}"})
+    script = (room / "told").read_text()
+    return {name: [row.split() for row in rows.splitlines()] for name, rows in re.findall(r"\$(\w+) << EOD\n(.*?)EOD\n", script, re.DOTALL)}, script
+
+
+# Rows of the picture, from the top; a row's place is its number below 0.
+ENDED, LIMIT, CONFIGURATION, STATUS, RESPONSE, RESET = range(0, -6, -1)
+
+
+def drawn(room):
+    # A read of another register, a refused event, a write that is no limit and a start have no mark; a receive has one where the status is read.
+    text = ("convert 20 85.25\nstatus\nreceive\nread configuration\nreceive\nrespond\nwrite configuration 0x40\nwrite remote-high-limit 90\n"
+            "write hysteresis 9\nwrite offset 0\nstart\nend 1 1\nsend status\nreceive\nrespond\nrespond\nreset\nreceive\n")
+    blocks, script = told(room, text)
+    check("the marks", differs([(int(time), int(row)) for time, row in blocks["marks"]],
+                               [(2, ENDED), (3, STATUS), (4, STATUS), (7, RESPONSE), (8, CONFIGURATION), (9, LIMIT), (10, LIMIT), (15, STATUS),
+                                (16, RESPONSE), (18, RESET)]))
+    # Remote high from event 2 until the status read at 15, ALERT until the response at 16; THERM until the reset, as 85.25 is over 85 - 9.
+    spans = {(int(row[1]), float(row[2]), float(row[3])) for row in blocks["bars"]}
+    check("the bars", differs(spans, {(0, 2, 16), (-1, 2, 18), (-4, 2, 15), (-7, 1, 2)}))
+    check("a value is drawn from the first conversion to the reset", differs([row[1] for row in blocks["degrees"]], ["NaN"] * 2 + ["85.25"] * 16 + ["NaN"] * 3))
+    names = [*"ALERT THERM".split(), "local high", "local low", "remote high", "remote low", "open", "busy"]
+    rows = [f"'{name}{' low' if name.isupper() else ''}' {-row}" for row, name in enumerate(names)]
+    words = ["'9 write remote-high-limit 90 = 0x5a' 9", "'12 code 4: start' 12", "'power-on' 0"]
+    check("rows and events have their names", [text for text in [", ".join(rows), *words, "one.trace, 19 events"] if text not in script])
+    blocks, script = told(room, "status\n" * 41)
+    check("a longer trace has numbers", differs(("read status" in script, "set xlabel 'event'" in script, len(blocks["marks"])), (False, True, 41)))
+
+
 def names(room):
     """A trace's name is shown, and is no command to gnuplot and no end of the VCD's comment."""
     trace = room / "it's `touch x` $end \"$(touch y)\".trace"
@@ -209,7 +247,7 @@ def terminal(room):
 
 
 def main():
-    for part in standby, recorded, by_hand, bad, without_gnuplot, names, terminal:
+    for part in standby, recorded, by_hand, bad, without_gnuplot, drawn, names, terminal:
         with tempfile.TemporaryDirectory() as room:
             part(Path(room))
     print(f"{passed} passed, {failed} failed")
