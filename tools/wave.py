@@ -19,21 +19,26 @@ from table import USUAL_ADDRESS
 from trace import put
 
 TABLE = explain.TABLE
-COMMANDS = {name: command for command, name in TABLE.registers["read"].items()}
+WRITE, READ, RESPOND, END = 2, 3, 5, 7                 # kinds
+REGISTERS = TABLE.registers[TABLE.kinds[READ].reply]    # names of what is read, by command
+STATUS, CONFIGURATION, HYSTERESIS = 0x02, 0x03, 0x21
+# Each channel's value, high, low and THERM limit, with the command of the low byte where there is one.
+CHANNELS = [{0x01: 0x10, 0x07: 0x13, 0x08: 0x14, 0x19: None}, {0x00: None, 0x05: None, 0x06: None, 0x20: None}]
+DEGREES = CHANNELS[0] | CHANNELS[1]
+VALUES = [next(iter(channel)) for channel in CHANNELS]
+ASKED = [STATUS, CONFIGURATION, HYSTERESIS, *DEGREES, *filter(None, DEGREES.values())]
+TO_CONFIGURATION = 0x09
+TO_LIMITS = [0x0B, 0x0C, 0x0D, 0x0E, 0x13, 0x14, 0x19, 0x20, 0x21]    # the writes that compare in standby
+FLAGS = TABLE.bits[REGISTERS[STATUS]]
+BUSY, LATCHED = 7, range(6, 1, -1)    # of the status; the latter are set by a comparison and cleared by a status read
+EXTENDED = 2         # of the configuration
+SHIFT = 64           # degrees by which the extended range is shifted
 MOST = 2000          # records; each event replays all before it
 WORDY = 40           # up to so many events the picture has each in words
 LONGEST = 42         # characters of an event in words
-LOW_BYTE = "-low-byte"
-SHIFT = 64           # degrees by which the extended range is shifted
-CHANNELS = ["remote", "local"]
-PARTS = ["value", "high-limit", "low-limit", "therm-limit"]
-DEGREES = [f"{channel}-{part}" for channel in CHANNELS for part in PARTS]
-READ = ["status", "configuration", "hysteresis", *DEGREES, *(name + LOW_BYTE for name in DEGREES if name + LOW_BYTE in COMMANDS)]
-LATCHED = range(6, 1, -1)    # the status bits that a comparison sets and a status read clears
-BUSY = 7
-MARKS = ["conversion ended", "limit write", "configuration write", "status read", "alert response", "reset"]
+MARKS = ["conversion ended", "limit write", "configuration write", "status read", "alert response", "power-on reset"]
 
-# After an event: its answer, the registers by name, the degrees by name; flags by bit.
+# After an event: its answer, then registers and degrees by command.
 Shown = namedtuple("Shown", "code reply alert therm registers degrees")
 
 
@@ -46,16 +51,15 @@ class Failed(Exception):
 
 def shown_of(line):
     code, reply, alert, therm, *bytes_read = map(int, line.split())
-    found = dict(zip(READ, bytes_read, strict=True))
-    extended = next(bit for bit, name in TABLE.bits["configuration"].items() if name == "extended range")
-    shift = SHIFT * (found["configuration"] >> extended & 1)
-    degrees = {name: found[name] + found.get(name + LOW_BYTE, 0) / 256 - shift for name in DEGREES}
+    found = dict(zip(ASKED, bytes_read, strict=True))
+    shift = SHIFT * (found[CONFIGURATION] >> EXTENDED & 1)
+    degrees = {command: found[command] + found.get(low, 0) / 256 - shift for command, low in DEGREES.items()}
     return Shown(code, reply, alert, therm, found, degrees)
 
 
 def probe(data, address, count):
     """What is shown at power-on and after each event."""
-    words = [Path(__file__).with_name("probe.sh"), str(address), *(str(COMMANDS[name]) for name in READ)]
+    words = [Path(__file__).with_name("probe.sh"), str(address), *map(str, ASKED)]
     found, told = [], sys.stderr.isatty()
     with subprocess.Popen(words, stdin=subprocess.PIPE, stdout=subprocess.PIPE) as program:
         try:
@@ -80,20 +84,23 @@ def probe(data, address, count):
 def signals():
     """Type, width, name, and what gives the value of what is shown, in the order in which they stand in the VCD."""
     def bit(number):
-        return lambda shown: f"{shown.registers['status'] >> number & 1}"
+        return lambda shown: str(shown.registers[STATUS] >> number & 1)
+
+    def line(name):
+        return lambda shown: str(getattr(shown, name))
 
     def byte(name):
-        return lambda shown: f"b{getattr(shown, name):b} "
+        return lambda shown: "b%s " % format(getattr(shown, name), "08b")
 
-    def degrees(name):
-        return lambda shown: f"r{shown.degrees[name]:.16g} "
+    def degrees(command):
+        return lambda shown: f"r{shown.degrees[command]:.16g} "
 
-    code, reply, *lines = TABLE.lines["answer"]
-    found = [("wire", 1, name.upper(), lambda shown, name=name: f"{getattr(shown, name)}") for name in lines]
-    found += [("wire", 1, TABLE.bits["status"][number], bit(number)) for number in [*LATCHED, BUSY]]
-    found += [("real", 64, name, degrees(name)) for name in DEGREES]
-    found += [("real", 64, "hysteresis", lambda shown: f"r{shown.registers['hysteresis']} ")]
-    return found + [("wire", 8, name, byte(name)) for name in (code, reply)]
+    *numbers, alert, therm = TABLE.lines["answer"]
+    found = [("wire", 1, name.upper(), line(name)) for name in (alert, therm)]
+    found += [("wire", 1, FLAGS[number], bit(number)) for number in [*LATCHED, BUSY]]
+    found += [("real", 64, REGISTERS[command], degrees(command)) for command in DEGREES]
+    found += [("real", 64, REGISTERS[HYSTERESIS], lambda shown: f"r{shown.registers[HYSTERESIS]} ")]
+    return found + [("wire", 8, name, byte(name)) for name in numbers]
 
 
 def vcd(shown, named):
@@ -130,21 +137,20 @@ def marks_of(records, shown):
         if one.code:
             continue
         kind = TABLE.kinds[record[0]]
-        named = [(field.form, number) for field, number in zip(kind.fields, record[1:]) if field.form in TABLE.registers]
-        pointer = 0 if kind.number == explain.RESET else named[0][1] if named else pointer
-        register = TABLE.registers[named[0][0] if named else "read"].get(pointer, "")
-        if kind.word == "end":
+        commands = [number for field, number in zip(kind.fields, record[1:]) if field.form in TABLE.registers]
+        pointer = 0 if kind.number == explain.RESET else (commands or [pointer])[0]
+        if kind.number == explain.RESET:
+            found.append((time, "power-on reset"))
+        elif kind.number == END:
             found.append((time, "conversion ended"))
-        elif kind.word == "write" and register == "configuration":
-            found.append((time, "configuration write"))
-        elif kind.word == "write" and ("-limit" in register or register == "hysteresis"):
-            found.append((time, "limit write"))
-        elif kind.reply == "read" and register == "status":
-            found.append((time, "status read"))
-        elif kind.reply == "own":
+        elif kind.number == RESPOND:
             found.append((time, "alert response"))
-        elif kind.number == explain.RESET:
-            found.append((time, "reset"))
+        elif kind.number == WRITE and pointer == TO_CONFIGURATION:
+            found.append((time, "configuration write"))
+        elif kind.number == WRITE and pointer in TO_LIMITS:
+            found.append((time, "limit write"))
+        elif kind.reply in TABLE.registers and pointer == STATUS:
+            found.append((time, "status read"))
     return found
 
 
@@ -188,18 +194,18 @@ def picture(records, shown, named):
     measured, had = [], False
     for time in range(count + 1):
         if time and not shown[time].code:
-            word = TABLE.kinds[records[time - 1][0]].word
-            had = word == "end" or had and word != "reset"
+            kind = records[time - 1][0]
+            had = kind == END or had and kind != explain.RESET
         measured.append(had)
 
     rows = []
     for time in range(count + 2):
         at = min(time, count)    # the last event's state goes on for one unit
         one = shown[at]
-        rows.append((time, *("NaN" if name.endswith("-value") and not measured[at] else f"{one.degrees[name]:g}" for name in DEGREES)))
+        # Before the first conversion a value register has 0, which nobody measured.
+        rows.append((time, *("NaN" if command in VALUES and not measured[at] else f"{one.degrees[command]:g}" for command in DEGREES)))
     bars = [(f"{name.upper()} low", [not getattr(one, name) for one in shown], 2) for name in TABLE.lines["answer"][2:]]
-    bars += [(TABLE.bits["status"][bit], [one.registers["status"] >> bit & 1 for one in shown], 1) for bit in LATCHED]
-    bars += [(TABLE.bits["status"][BUSY], [one.registers["status"] >> BUSY & 1 for one in shown], 0)]
+    bars += [(FLAGS[bit], [one.registers[STATUS] >> bit & 1 for one in shown], 0 if bit == BUSY else 1) for bit in [*LATCHED, BUSY]]
     boxes = [(f"{(low + high) / 2} {-row} {low} {high} {-row - 0.36} {-row + 0.36}", colour)
              for row, (_, held, colour) in enumerate(bars) for low, high in spans(held)]
 
@@ -219,16 +225,16 @@ def picture(records, shown, named):
                  f"set key at screen 0.84, {1 - (top + panel / 2) / height:.5f} left center Left reverse samplen 2 spacing 1.25"]
         top += panel + gap
         if at < len(CHANNELS):
-            base = 2 + at * len(PARTS)
-            drawn = [(3, "THERM limit", "lc rgb '#e8b0b0' lw 6 dt 1"), (1, "high limit", "lc rgb '#c02020' lw 2 dt 2"),
-                     (2, "low limit", "lc rgb '#2060c0' lw 2 dt 2"), (0, "value", "lc rgb '#000000' lw 2.5 dt 1")]
-            values = [number for row in rows for number in row[1 + at * len(PARTS):1 + (at + 1) * len(PARTS)] if number != "NaN"]
-            low, high = min(map(float, values)), max(map(float, values))
-            told += [f"set yrange [{low - 8}:{high + 8}]", f"set ylabel '{CHANNELS[at]}, °C' offset screen -0.02,0",
-                     "plot " + ", ".join(f"$degrees using 1:{base + part} with steps {style} title '{CHANNELS[at]} {name}'" for part, name, style in drawn)]
+            value, high, low, therm = CHANNELS[at]
+            drawn = [(therm, "lc rgb '#e8b0b0' lw 6 dt 1"), (high, "lc rgb '#c02020' lw 2 dt 2"), (low, "lc rgb '#2060c0' lw 2 dt 2"),
+                     (value, "lc rgb '#000000' lw 2.5 dt 1")]
+            column = {command: place for place, command in enumerate(DEGREES, 2)}
+            numbers = [float(row[column[command] - 1]) for row in rows for command in CHANNELS[at] if row[column[command] - 1] != "NaN"]
+            told += [f"set yrange [{min(numbers) - 8}:{max(numbers) + 8}]", f"set ylabel '{REGISTERS[value].split('-')[0]}, °C' offset screen -0.02,0",
+                     "plot " + ", ".join(f"$degrees using 1:{column[command]} with steps {style} title {quoted(REGISTERS[command])}" for command, style in drawn)]
         elif at == len(CHANNELS):
             tics = ", ".join(f"{quoted(name)} {-row}" for row, (name, _, _) in enumerate(bars))
-            sorts = [(2, "#c02020", "line low"), (1, "#e08000", "flag set"), (0, "#8090a0", "busy")]
+            sorts = [(2, "#c02020", "line low"), (1, "#e08000", "flag set"), (0, "#8090a0", FLAGS[BUSY])]
             told += ["unset ylabel", f"set yrange [{-len(bars) + 0.5}:0.5]", f"set ytics ({tics})",
                      "plot " + ", ".join(f"$bars using ($7 == {sort} ? $1 : NaN):2:3:4:5:6 with boxxyerror fc rgb '{colour}' title '{name}'"
                                          for sort, colour, name in sorts)]
