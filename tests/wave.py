@@ -158,14 +158,17 @@ def bad(room):
         check(f"refused: {wanted}", differs(have, ((1, "", f"{trace}{wanted}\n"), ["bad.trace"])))
     missing = room / "none.trace"
     check("refused: no such file", differs(run(missing), (1, "", f"{missing}: No such file or directory\n")))
-    code, _, said = run(TRACES / "k11.trace", "-o", room / "none" / "k11")
-    check("refused: no such folder", [] if code == 1 and "No such file or directory" in said and "Traceback" not in said else [said])
+    path = room / "none" / "k11"
+    check("refused: no such folder", differs(run(TRACES / "k11.trace", "-o", path), (1, "", f"{path}.vcd: No such file or directory\n")))
     check("refused: address 78", differs(run(TRACES / "k11.trace", "--address", "78", "-o", room / "k11")[0], 2))
     check("none of them left a file", differs(sorted(one.name for one in room.iterdir()), ["bad.trace"]))
     # Old files stay as they are where the new ones are not made.
     for ending in "vcd", "png":
         (room / f"bad.{ending}").write_text("old")
     run(room / "bad.trace")
+    (room / "own.vcd").write_text(RECORD)
+    have = run(room / "own.vcd", "-o", room / "own"), (room / "own.vcd").read_text()
+    check("refused: over the trace itself", differs(have, ((1, "", f"{room / 'own.vcd'}: this is the trace itself\n"), RECORD)))
     check("old files stay", differs([(room / f"bad.{ending}").read_text() for ending in ("vcd", "png")], ["old", "old"]))
 
 

@@ -209,7 +209,7 @@ def picture(records, shown, named):
     boxes = [(f"{(low + high) / 2} {-row} {low} {high} {-row - 0.36} {-row + 0.36}", colour)
              for row, (_, held, colour) in enumerate(bars) for low, high in spans(held)]
 
-    told = [f"set terminal pngcairo noenhanced size {width},{height} font 'sans,10' background '#ffffff'"]
+    told = ["set encoding utf8", f"set terminal pngcairo noenhanced size {width},{height} font 'sans,10' background '#ffffff'"]
     told += block("degrees", rows) + block("bars", boxes) + block("marks", [(time, -MARKS.index(mark)) for time, mark in marks])
     step = next(step for step in (1, 2, 5, 10, 20, 50, 100, 200) if count <= 15 * step)
     told += [f"set multiplot title {quoted(f'ADT7461 model: {named}, {count} events')} font 'sans,13'",
@@ -231,7 +231,8 @@ def picture(records, shown, named):
             column = {command: place for place, command in enumerate(DEGREES, 2)}
             numbers = [float(row[column[command] - 1]) for row in rows for command in CHANNELS[at] if row[column[command] - 1] != "NaN"]
             told += [f"set yrange [{min(numbers) - 8}:{max(numbers) + 8}]", f"set ylabel '{REGISTERS[value].split('-')[0]}, °C' offset screen -0.02,0",
-                     "plot " + ", ".join(f"$degrees using 1:{column[command]} with steps {style} title {quoted(REGISTERS[command])}" for command, style in drawn)]
+                     "plot " + ", ".join(f"$degrees using 1:{column[command]} with steps {style} title {quoted(REGISTERS[command])}"
+                                         for command, style in drawn)]
         elif at == len(CHANNELS):
             tics = ", ".join(f"{quoted(name)} {-row}" for row, (name, _, _) in enumerate(bars))
             sorts = [(2, "#c02020", "line low"), (1, "#e08000", "flag set"), (0, "#8090a0", FLAGS[BUSY])]
@@ -254,7 +255,7 @@ def picture(records, shown, named):
 
 
 def draw(script):
-    done = subprocess.run(["gnuplot"], input=script.encode(), capture_output=True)
+    done = subprocess.run(["gnuplot", "-d"], input=script.encode(), capture_output=True)
     if done.returncode or not done.stdout.startswith(b"\x89PNG"):
         raise Failed(f"gnuplot: {done.stderr.decode(errors='replace').strip()[:2000] or 'no picture'}")
     return done.stdout
@@ -263,21 +264,30 @@ def draw(script):
 # ---- the command
 
 
+def save(path, data, trace):
+    try:
+        if os.path.exists(path) and os.path.samefile(path, trace):
+            raise OSError("this is the trace itself")
+        put(path, data)
+    except OSError as error:
+        raise Failed(f"{path}: {error.strerror or error}") from error
+
+
 def waves(trace, address, name):
     with open(trace, "rb") as file:
         data = file.read()
     records = explain.records_of(data)
     if len(records) > MOST:
-        raise Failed(f"{len(records)} records, at most {MOST} are taken: each event replays all before it")
+        raise Failed(f"{trace}: {len(records)} records, at most {MOST} are taken: each event replays all before it")
     named = "".join(one if one.isprintable() else "?" for one in os.path.basename(trace))
     shown = probe(data, address, len(records))
     text = vcd(shown, named).encode()
     image = draw(picture(records, shown, named)) if shutil.which("gnuplot") else None
-    put(name + ".vcd", text)
+    save(name + ".vcd", text, trace)
     if image is None:
         print(f"gnuplot is missing (Debian's package gnuplot-nox): {name}.vcd is written, {name}.png is not drawn", file=sys.stderr)
         return 3
-    put(name + ".png", image)
+    save(name + ".png", image, trace)
     return 0
 
 
@@ -292,9 +302,9 @@ def main():
     except explain.Bad as bad:
         said = f"{given.trace}:{bad.place}: {bad}"
     except OSError as error:
-        said = f"{error.filename or given.name}: {error.strerror or error}"
+        said = f"{error.filename or given.trace}: {error.strerror or error}"
     except Failed as failed:
-        said = f"{given.trace}: {failed}"
+        said = str(failed)
     except KeyboardInterrupt:
         return 130
     print(said, file=sys.stderr)
