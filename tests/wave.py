@@ -224,6 +224,9 @@ def drawn(room):
     rows = [f"'{name}{' low' if name.isupper() else ''}' {-row}" for row, name in enumerate(names)]
     words = ["'9 write remote-high-limit 90 = 0x5a' 9", "'12 code 4: start' 12", "'power-on' 0"]
     check("rows and events have their names", [text for text in [", ".join(rows), *words, "one.trace, 19 events"] if text not in script])
+    blocks, _ = told(room, "convert 20 85.25")
+    spans = {(int(row[1]), float(row[2]), float(row[3])) for row in blocks["bars"]}
+    check("bars that hold at the end", differs(spans, {(0, 2, 3), (-1, 2, 3), (-4, 2, 3), (-7, 1, 2)}))
     blocks, script = told(room, "status\n" * 41)
     check("a longer trace has numbers", differs(("read status" in script, "set xlabel 'event'" in script, len(blocks["marks"])), (False, True, 41)))
 
@@ -245,7 +248,10 @@ def terminal(room):
     ours, theirs = pty.openpty()
     done = subprocess.run([sys.executable, ROOT / "tools" / "wave.py", trace], stdin=subprocess.DEVNULL, stdout=subprocess.PIPE, stderr=theirs)
     os.close(theirs)
-    said = os.read(ours, 65536).decode()
+    try:
+        said = os.read(ours, 65536).decode()
+    except OSError:    # nothing was said
+        said = ""
     os.close(ours)
     check("a terminal is told how far it is", [] if done.stdout == b"" and "50 of 120 events" in said and "100 of 120 events" in said else [repr(said)])
     check("and a pipe is not", differs(run(trace)[2], "") if shutil.which("gnuplot") else [])
