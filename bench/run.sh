@@ -40,23 +40,23 @@ fi
 # manager does not learn of a second architecture.
 fetch_counter() {
     local home=$PWD/$out/amd64 apt
-    [[ ! -x $home/root/usr/libexec/valgrind/callgrind-amd64-linux ]] || return 0
-    mkdir -p "$home"/{lists/partial,cache/archives/partial,root}
+    [[ ! -x $home/tree/usr/libexec/valgrind/callgrind-amd64-linux ]] || return 0
+    mkdir -p "$home"/{lists/partial,cache/archives/partial,tree}
     touch "$home/status"
     apt=(apt-get -qq -o APT::Architecture=amd64 -o APT::Architectures=amd64 -o "Dir::State=$home" -o "Dir::State::status=$home/status"
         -o "Dir::Cache=$home/cache" -o APT::Sandbox::User=root)
     "${apt[@]}" update
     (cd "$home" && "${apt[@]}" download valgrind)
-    dpkg -x "$home"/valgrind_*_amd64.deb "$home/root"
+    dpkg -x "$home"/valgrind_*_amd64.deb "$home/tree"
 }
 
 binutils=
 if ((${#x86_run[@]})); then
     fetch_counter
     binutils=x86_64-linux-gnu-
-    root=$PWD/$out/amd64/root
-    counter=(env "VALGRIND_LIB=$root/usr/libexec/valgrind" "VALGRIND_LAUNCHER=$root/usr/bin/valgrind"
-        "${x86_run[@]}" "$root/usr/libexec/valgrind/callgrind-amd64-linux")
+    tree=$PWD/$out/amd64/tree
+    counter=(env "VALGRIND_LIB=$tree/usr/libexec/valgrind" "VALGRIND_LAUNCHER=$tree/usr/bin/valgrind"
+        "${x86_run[@]}" "$tree/usr/libexec/valgrind/callgrind-amd64-linux")
 else
     need valgrind valgrind
     counter=(valgrind)

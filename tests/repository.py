@@ -8,6 +8,8 @@ import subprocess
 import sys
 from pathlib import Path
 
+from checks import check, end
+
 ROOT = Path(__file__).resolve().parent.parent
 # A public function: its attributes, `pub` or `pub(..)`, words such as `extern "C"`, its name, and all up to its body.
 PUBLIC = re.compile(r'^ *(?:#\[[^\n]*?\] *)*pub(?:\([^)\n]*\))? (?:[\w"]+ )*?fn (\w+)(.*?)(?:\n\s*\{$| \{$| \{\}$)', re.M | re.S)
@@ -15,20 +17,6 @@ PUBLIC = re.compile(r'^ *(?:#\[[^\n]*?\] *)*pub(?:\([^)\n]*\))? (?:[\w"]+ )*?fn 
 RECORDS = ["Put", "Turned", "Ran", "Replayed", "Written"]
 # What makes a statement hold of more than one answer.
 LOOSENS = re.compile("[→⊎∨]")
-passed, failures = 0, []
-
-
-def check(name, wrong):
-    """Counts one check: `wrong` lists what it found."""
-    global passed
-    if wrong:
-        failures.append(name)
-        print(f"FAILED {name}")
-        for line in wrong[:20]:
-            print(f"    {line}")
-    else:
-        passed += 1
-        print(f"ok {name}")
 
 
 # ---- public contracts
@@ -232,8 +220,7 @@ def main():
     documents()
     edits()
     cases()
-    print(f"{passed} passed, {len(failures)} failed")
-    sys.exit(1 if failures else 0)
+    end()
 
 
 main()

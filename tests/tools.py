@@ -10,29 +10,16 @@ import sys
 import tempfile
 from pathlib import Path
 
+from checks import check, differs, end
+
 ROOT = Path(__file__).resolve().parent.parent
 TRACES = ROOT / "tests" / "traces"
-passed, failed = 0, 0
-
-
-def check(name, wrong):
-    """Counts one check: `wrong` lists what it found."""
-    global passed, failed
-    failed += bool(wrong)
-    passed += not wrong
-    print(f"{'FAILED' if wrong else 'ok'} {name}")
-    for line in wrong[:20]:
-        print(f"    {line}")
 
 
 def run(tool, *words, given=b""):
     """Exit code, standard output and standard error."""
     done = subprocess.run([sys.executable, ROOT / "tools" / tool, *words], input=given, capture_output=True)
     return done.returncode, done.stdout.decode(), done.stderr.decode()
-
-
-def differs(have, want):
-    return [] if have == want else [f"wanted {want!r}", f"found  {have!r}"]
 
 
 def record(*numbers):
@@ -362,8 +349,7 @@ def main():
     for part in notation, words, bad_words, one_table, recorded:
         with tempfile.TemporaryDirectory() as room:
             part(Path(room))
-    print(f"{passed} passed, {failed} failed")
-    sys.exit(1 if failed else 0)
+    end()
 
 
 main()

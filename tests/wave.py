@@ -11,26 +11,13 @@ import sys
 import tempfile
 from pathlib import Path
 
+from checks import check, differs, end
+
 ROOT = Path(__file__).resolve().parent.parent
 TRACES = ROOT / "tests" / "traces"
-passed, failed = 0, 0
 
 FLAGS = ["local_high", "local_low", "remote_high", "remote_low", "open"]
 DEGREES = [f"{channel}_{part}" for channel in ("local", "remote") for part in ("value", "high_limit", "low_limit", "therm_limit")]
-
-
-def check(name, wrong):
-    """Counts one check: `wrong` lists what it found."""
-    global passed, failed
-    failed += bool(wrong)
-    passed += not wrong
-    print(f"{'FAILED' if wrong else 'ok'} {name}")
-    for line in wrong[:20]:
-        print(f"    {line}")
-
-
-def differs(have, want):
-    return [] if have == want else [f"wanted {want!r}", f"found  {have!r}"]
 
 
 def run(*words, **more):
@@ -264,8 +251,7 @@ def main():
                 part(Path(room))
             except Exception as error:    # the other parts still tell what they find
                 check(f"'{part.__name__}' ends", [repr(error)])
-    print(f"{passed} passed, {failed} failed")
-    sys.exit(1 if failed else 0)
+    end()
 
 
 main()
