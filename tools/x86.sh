@@ -3,13 +3,7 @@
 #   "${x86_cc[@]}" FILES "$x86_library" -o PROGRAM    builds
 #   "${x86_run[@]}" PROGRAM                           runs; empty on x86-64
 
-# Installs Debian's packages where a command is missing: command, then packages.
-need() {
-    local command=$1
-    shift
-    command -v "$command" >/dev/null || { apt-get update -qq && apt-get install -y -qq "$@" >/dev/null; }
-}
-
+. tools/need.sh
 need gcc gcc libc6-dev
 if [[ $(uname -m) == x86_64 ]]; then
     x86_cc=(gcc)
