@@ -9,6 +9,7 @@ import sys
 from pathlib import Path
 
 from checks import check, end
+from refusals import unfit
 
 ROOT = Path(__file__).resolve().parent.parent
 # A public function: its attributes, `pub` or `pub(..)`, words such as `extern "C"`, its name, and all up to its body.
@@ -142,25 +143,6 @@ def documents():
 
 
 # ---- must-fail edits
-
-# Refusals that say only that the proof no longer fits the code's form. A rewrite that finds nothing ("`rw`: no occurrence of the path's
-# left endpoint") is none of them: the form fits, and a test or call now says something else than the rule.
-UNFIT = ["has no `Need-", "is not in scope", "has no field", "Parse", "no such module"]
-
-
-def unfit(log, at):
-    """Why an edit shows nothing: its first error is one of form, or no error stands in the file that is to refuse it."""
-    errors = [line for line in log.replace("\n  ", " ").splitlines() if ": error" in line or line.startswith("note: ")]
-    errors = [line for line in errors if "was not admitted" not in line]
-    if not errors:
-        return "no error"
-    for word in UNFIT:
-        if word in errors[0][:600]:
-            return f"first error: {errors[0][:160]}"
-    if at and not any(f"/{place}:" in line and ": error" in line for line in errors for place in at):
-        return f"no error in {' or '.join(at)}"
-    return ""
-
 
 # Which file must refuse an edit of the rules: a table, or the alarm theorem; of these the theorem itself.
 TABLES, THEOREM = "proofs/Tables.antt", "proofs/Alarm.antt"

@@ -2,7 +2,7 @@
 use Prim.Native.Nat.{ℕ, _+_, _≤_, _<_}
 use native.Mathlib.Omega.{arith}
 use mathlib.Core.Path.{_≡_, refl, subst, sym, ap, _∙_}
-use mathlib.Core.Bool.{Bool, true, false, cond, _&&_, _||_, not}
+use mathlib.Core.Bool.{Bool, true, false, cond, _&&_, _||_, not, and-assoc, and-false, and-true, not-and-self, or-comm, or-false, or-true}
 use mathlib.Core.List.{List, [], _∷_, map}
 use lib.Dec.{leb, ltb, eqb}
 use lib.IntN.{ℤ}
@@ -76,19 +76,11 @@ module _ {f : Flag} {l : Latched} {h : History} (g : Holds f l h) (x : Happened)
   compared true made unread =
       record { flag = rw (made, unread) (or-true (l .flag)); found = rw made; spells = rw (made, unread) (one (stands f h) (g .spells)) }
     where
-      or-true : (b : Bool) → b || true ≡ true
-      or-true true = refl
-      or-true false = refl
-
       one : (b : Bool) → spellsOpened f h ≡ readsThatClosed f h + weight b 1 → weight (not b) 1 + spellsOpened f h ≡ 0 + readsThatClosed f h + 1
       one true e = omega (arith, e)
       one false e = omega (arith, e)
   compared false made unread =
       record { flag = rw (made, unread) (or-false (l .flag) ∙ g .flag); found = rw made; spells = rw (made, unread) (omega (arith, g .spells)) }
-    where
-      or-false : (b : Bool) → b || false ≡ b
-      or-false true = refl
-      or-false false = refl
 
   -- a status read that showed the flag
   read : findingOf f x ≡ MadeNone → isStatusRead (x .deed) ≡ true → bit (placeOf f) (x .reply) ≡ l .flag → Holds f (shownOf l) (x ∷ h)
@@ -102,15 +94,7 @@ module _ {f : Flag} {l : Latched} {h : History} (g : Holds f l h) (x : Happened)
     where
       by : (t : Bool) → l .flag && l .found ≡ stands f h && t → l .flag && l .found ≡ cond (not t) false (stands f h)
       by true e = e ∙ and-true (stands f h)
-        where
-          and-true : (b : Bool) → b && true ≡ b
-          and-true true = refl
-          and-true false = refl
       by false e = e ∙ and-false (stands f h)
-        where
-          and-false : (b : Bool) → b && false ≡ false
-          and-false true = refl
-          and-false false = refl
 
       count : (t b : Bool) → bit (placeOf f) (x .reply) ≡ b → spellsOpened f h ≡ readsThatClosed f h + weight b 1 → 0 + spellsOpened f h ≡ weight (not t && bit (placeOf f) (x .reply)) 1 + readsThatClosed f h + weight (cond (not t) false b) 1
       count true b e n = omega (arith, n)
@@ -227,16 +211,6 @@ unfolding running
 broke s h v reply g = record { busy = refl; rest = rest-cut-off (g .rest) v reply }
 
 -- ---- Truth tables ----
-
-or-swap : (a b : Bool) → a || b ≡ b || a
-or-swap true true = refl
-or-swap true false = refl
-or-swap false true = refl
-or-swap false false = refl
-
-never-both : (b : Bool) → not b && b ≡ false
-never-both true = refl
-never-both false = refl
 
 outcome-fault : (b : Bool) → isFault (outcome b) ≡ b
 outcome-fault true = refl
@@ -360,7 +334,7 @@ module _ {lc rc : Bool} {n : ℕ} {latch : Bool} {l r : Marks} {h : History} (g 
         local-conv = g .local-conv;
         remote-conv = g .remote-conv;
         counted = g .counted;
-        latching = rw (g .latching, e) (or-swap (latched h) (findsLimit x));
+        latching = rw (g .latching, e) (or-comm (latched h) (findsLimit x));
         local-high = compared (g .local-high) x (beyond v Local Above) refl refl;
         local-low = compared (g .local-low) x (beyond v Local Below) refl refl;
         remote-high = compared (g .remote-high) x (beyond v Remote Above) refl refl;
@@ -379,7 +353,7 @@ module _ {lc rc : Bool} {n : ℕ} {latch : Bool} {l r : Marks} {h : History} (g 
         local-conv = refl;
         remote-conv = refl;
         counted = row;
-        latching = rw (row, g .latching, needs-same (v .consecutive), held-reached (needs (v .consecutive)) (cond (findsLimit x) (inARow h + 1) 0) (needs-few (v .consecutive))) (or-swap (latched h) _);
+        latching = rw (row, g .latching, needs-same (v .consecutive), held-reached (needs (v .consecutive)) (cond (findsLimit x) (inARow h + 1) 0) (needs-few (v .consecutive))) (or-comm (latched h) _);
         local-high = compared (g .local-high) x (beyond v Local Above) refl refl;
         local-low = compared (g .local-low) x (beyond v Local Below) refl refl;
         remote-high = compared (g .remote-high) x (beyond v Remote Above) refl refl;
@@ -501,10 +475,6 @@ any-stands s h g =
     rw (g .plain, g .local-high .flag, g .local-low .flag, g .remote-high .flag, g .remote-low .flag, g .broken .flag) (five-flags (stands (Limit Local Above) h) (stands (Limit Local Below) h) (stands (Limit Remote Above) h) (stands (Limit Remote Below) h) (stands OpenDiode h))
 
 -- an alert response: the latch is cleared where the line is low and no flag stands
-pub free-line : (l m t : Bool) → l && not m && not t ≡ l && (not m && not t)
-free-line true m t = refl
-free-line false m t = refl
-
 respond-noted : (s : State) (h : History) → Agrees s h → Noted h (respondOf s) (Asked (lineFree (viewOf s)))
 unfolding respondOf running ever inARow latched
 respond-noted s h g = by (alertLow s) refl
@@ -513,7 +483,7 @@ respond-noted s h g = by (alertLow s) refl
     free = lineFree (viewOf s)
 
     low : alertLow s ≡ latched h && free
-    low = rw (← (g .rest .latching)) (free-line (s .latch) (masked (s .config)) (choosesTherm2 (s .config)))
+    low = rw (← (g .rest .latching)) (and-assoc (s .latch) (not (masked (s .config))) (not (choosesTherm2 (s .config))))
 
     kept : (l a : Bool) → l && a ≡ cond (not a) false l
     kept true true = refl
@@ -598,11 +568,7 @@ all-agrees s h g p q =
     record { busy = g .busy; rest = rest-compared (g .rest) v 0 (t .local .marks .therm) (t .remote .marks .therm) (any (faultsOf (allCompared s))) (rw (p, q) (same-finds (beyond v Local Above) (beyond v Local Below) (beyond v Remote Above) (beyond v Remote Below))) }
 
 none-found : (s : State) → s .local .converted ≡ false → s .remote .converted ≡ false → s .latch || any (faultsOf s) ≡ s .latch
-none-found s p q = rw (p, q) (by (s .latch))
-  where
-    by : (b : Bool) → b || false ≡ b
-    by true = refl
-    by false = refl
+none-found s p q = rw (p, q) (or-false (s .latch))
 
 none-agrees : (s : State) (h : History) → Agrees s h → s .local .converted ≡ false → s .remote .converted ≡ false → Agrees (latchedByFaults s) (event Idle (viewOf (latchedByFaults s)) 0 ∷ h)
 unfolding running
@@ -634,7 +600,7 @@ as-deed h s u n d e g = subst (λ (x : Deed). Agrees u (event x (viewOf u) 0 ∷
 -- any register but the configuration: nothing stops, and it compares or not
 module _ (h : History) (s u : State) (n : ℕ) (w : Bool) (g : Agrees u h) (same : u .config ≡ s .config) (shot : false ≡ eqb n 0x0f) (comp : w ≡ comparesAt n) where
   plain-deed : (v : View) → v .config ≡ s .config → writeDeed h (viewOf s) v n ≡ deedIf (w && standby (s .config) && ever h) Compared
-  plain-deed v e = rw (← shot, e, never-both (standby (s .config)), ← comp)
+  plain-deed v e = rw (← shot, e, not-and-self (standby (s .config)), ← comp)
 
   kept-config : (t : Bool) → cond t (standbyCompared u) u .config ≡ s .config
   unfolding standbyCompared
@@ -651,7 +617,7 @@ module _ (h : History) (s u : State) (n : ℕ) (w : Bool) (g : Agrees u h) (same
       by false b = idle u h _ _ g
 
   not-stopped : stoppedIf (s .config) u ≡ u
-  not-stopped = rw (same, never-both (standby (s .config)))
+  not-stopped = rw (same, not-and-self (standby (s .config)))
 
   stored-noted : Written h s n (comparedIf w (stoppedIf (s .config) u))
   stored-noted =
@@ -690,7 +656,7 @@ target-noted h s n b OneShot g shot comp = by (standby (s .config)) (s .busy) re
     by true false e f = as-deed h s (withBusy u true) n Began (rw (← shot, e, ← f)) (began u h _ _ (record { busy = g .busy; rest = g .rest }))
     by false y e f = as-deed h s u n Idle (rw (← shot, e)) (idle u h _ _ (record { busy = g .busy; rest = g .rest }))
 target-noted h s n b Nowhere g shot comp =
-    as-deed h s (withPointer s n) n Idle (rw (← shot, never-both (standby (s .config)), ← comp)) (idle (withPointer s n) h _ _ (record { busy = g .busy; rest = g .rest }))
+    as-deed h s (withPointer s n) n Idle (rw (← shot, not-and-self (standby (s .config)), ← comp)) (idle (withPointer s n) h _ _ (record { busy = g .busy; rest = g .rest }))
 
 -- ---- Every event, and every sequence of them ----
 

@@ -1,7 +1,7 @@
 -- What follows from the history's claims for whoever reads the status and watches the line. Assumes nothing.
 use Prim.Native.Nat.{ℕ}
 use mathlib.Core.Path.{_≡_, refl, subst, sym, ap, _∙_}
-use mathlib.Core.Bool.{Bool, true, false, cond, _&&_, _||_, not}
+use mathlib.Core.Bool.{Bool, true, false, cond, _&&_, _||_, not, and-assoc}
 use mathlib.Core.List.{List, [], _∷_, map}
 use lib.Dec.{eqb}
 use native.Mathlib.Omega.{arith}
@@ -37,14 +37,14 @@ use Rattle.rules.specs.Conversion.{converted}
 use Rattle.rules.specs.Write.{comparedIf, standbyCompared, stoppedIf, stored, writeCompares, written, writtenTo}
 use Rattle.rules.specs.Status.{afterStatus, statusOf}
 use Rattle.rules.specs.Step.{answerOf, applyOf, checkedOf, done, endOf, onBus, refused, responded, respondOf, responseOf, silent, startOf, stepOf}
-use Rattle.rules.specs.Trial.{Four, lastFrom}
+use Rattle.rules.specs.Trial.{Four, lastFrom, respond}
 use Rattle.rules.specs.WellFormed.{wellFormed}
-use Rattle.rules.specs.Alarm.{AlertStaysLow, Deed, FaultsShown, Flag, Happened, History, LineShown, NoneInvented, ReadsShow, ResetBeginsAnew, ResponsesAnswered, Side, StandbyLimitAlerts, StandbyLimitShown, View, answerFor, beyond, checkedDeed, checkedReads, clearsLatchNow, comparesAt, everConverted as ever, deedIf, diodeFinding, finds, findsLimit, findsNow, flagAt, formOf, highCommand, historyFrom, historyOf, historyThen, inARow, isAnswered, isFault, isReset, isStatusEvent, isStatusRead, latched, limitFinding, lineFree, needs, withEvent, outcome, placeOf, readsStatus, respond, running, setBy, sets, setsNow, stands, stateOf, stateThen, withStep, uncleared, unread, viewOf, writeDeed}
+use Rattle.rules.specs.Alarm.{AlertStaysLow, Deed, FaultsShown, Flag, Happened, History, LineShown, NoneInvented, ReadsShow, ResetBeginsAnew, ResponsesAnswered, Side, StandbyLimitAlerts, StandbyLimitShown, View, answerFor, beyond, checkedDeed, checkedReads, clearsLatchNow, comparesAt, everConverted as ever, deedIf, diodeFinding, finds, findsLimit, findsNow, flagAt, formOf, highCommand, historyFrom, historyOf, historyThen, inARow, isAnswered, isFault, isReset, isStatusEvent, isStatusRead, latched, limitFinding, lineFree, needs, withEvent, outcome, placeOf, readsStatus, running, setBy, sets, setsNow, stands, stateOf, stateThen, withStep, uncleared, unread, viewOf, writeDeed}
 use Rattle.rules.specs.Alarm.Deed.{Idle, Began, CutOff, Measured, Compared, StatusRead, Asked}
 use Rattle.rules.proofs.Choice.{choice}
 use Rattle.rules.specs.Alarm.Flag.{Limit, OpenDiode}
 use Rattle.rules.specs.Alarm.Side.{Above, Below}
-use Rattle.rules.proofs.Alarm.{Agrees, RestOf, Shown, agrees, all-more, free-line, holds, isStatus, no, one-more, reads, shown}
+use Rattle.rules.proofs.Alarm.{Agrees, RestOf, Shown, agrees, all-more, holds, isStatus, no, one-more, reads, shown}
 use Rattle.rules.proofs.WellFormed.{fresh-well-formed, left, right, steps-well-formed}
 use Rattle.rules.proofs.NeverSix.{after-well}
 
@@ -130,7 +130,7 @@ none-invented address made es r f status quiet = reads-show address made es r st
 
 answered : (s : State) (latch : Bool) → wellFormed s ≡ true → s .latch ≡ latch → answerFor s respond .code ≡ cond (latch && lineFree (viewOf s)) 0 3
 unfolding stepOf applyOf respondOf
-answered s latch w e = rw (w, ← e, ← free-line (s .latch) (masked (s .config)) (choosesTherm2 (s .config))) (by (alertLow s))
+answered s latch w e = rw (w, ← e, ← (and-assoc (s .latch) (not (masked (s .config))) (not (choosesTherm2 (s .config))))) (by (alertLow s))
   where
     by : (t : Bool) → cond t (answerOf 0 (responseOf (s .given .address)) (responded s)) (refused 3 s) .code ≡ cond t 0 3
     by true = refl
@@ -272,7 +272,7 @@ faults-shown address made es e later r f found calm status =
     ∙ still-stands f later (answerFor (stateOf address es) e .state) (withStep (historyOf address es) (stateOf address es) e) (found-stands f (withStep (historyOf address es) (stateOf address es) e) found) calm
 
 line : (s : State) (latch : Bool) → s .latch ≡ latch → alertLine s ≡ not (latch && lineFree (viewOf s))
-line s latch e = rw (← e) (ap not (free-line (s .latch) (masked (s .config)) (choosesTherm2 (s .config))))
+line s latch e = rw (← e) (ap not (and-assoc (s .latch) (not (masked (s .config))) (not (choosesTherm2 (s .config)))))
 
 low : (s : State) → s .latch ≡ true → lineFree (viewOf s) ≡ true → alertLine s ≡ false
 low s l t = line s true l ∙ rw t

@@ -6,7 +6,6 @@ use mathlib.Core.Bool.{Bool, cond, not, _||_, _&&_, true, false}
 use mathlib.Core.List.{List, [], _∷_, _++_, map}
 use lib.Dec.{eqb, leb}
 use lib.IntN.{ℤ}
-use lib.IntN.ℤ.{pos}
 use Rattle.rules.specs.declared.register.Channel.{Channel}
 use Rattle.rules.specs.declared.register.Channel.the-variants.{Local, Remote}
 use Rattle.rules.specs.declared.state.Settings.{Settings}
@@ -26,7 +25,7 @@ use Rattle.rules.specs.PowerOn.{madeOf}
 use Rattle.rules.specs.Registers.{sensorAt}
 use Rattle.rules.specs.Sound.{after}
 use Rattle.rules.specs.Step.{stepOf}
-use Rattle.rules.specs.Trial.{Four}
+use Rattle.rules.specs.Trial.{Four, respond}
 use Rattle.rules.specs.Values.{scaleOf}
 
 -- ---- What the history is given ----
@@ -65,7 +64,10 @@ abbrev pub beyond : View → Channel → Side → Bool
 beyond v ch Above = aboveOf (limitOf (scaleOf ch) (v .settings ch .high) (v .settings ch .highfine)) (v .value ch)
 beyond v ch Below = belowOf (limitOf (scaleOf ch) (v .settings ch .low) (v .settings ch .lowfine)) (v .value ch)
 
--- what one event is answered
+-- the form of one event, and what it is answered
+abbrev pub formOf : Four → Checked
+formOf e = checkOf (e .kind) (e .a) (e .b) (e .c)
+
 abbrev pub answerFor : State → Four → Answer
 answerFor s e = stepOf s (e .kind) (e .a) (e .b) (e .c)
 
@@ -181,7 +183,7 @@ withEvent earlier before v reply k =
 
 abbrev pub withStep : History → State → Four → History
 withStep earlier s e =
-    withEvent earlier (viewOf s) (viewOf (answerFor s e .state)) (answerFor s e .reply) (checkOf (e .kind) (e .a) (e .b) (e .c))
+    withEvent earlier (viewOf s) (viewOf (answerFor s e .state)) (answerFor s e .reply) (formOf e)
 
 unfoldable pub historyFrom : History → State → List Four → History
 historyFrom earlier s [] = earlier
@@ -379,9 +381,6 @@ LatchStands =
     (address : ℤ) → madeOf address .code ≡ 0 → (es : List Four) → stateOf address es .latch ≡ latched (historyOf address es)
 
 -- an alert response is answered, code 0, exactly where the history's own latch has the line low; otherwise its code is 3
-abbrev pub respond : Four
-respond = record { kind = pos 5; a = pos 0; b = pos 0; c = pos 0 }
-
 abbrev pub ResponsesAnswered : Type 0
 ResponsesAnswered =
     (address : ℤ) → madeOf address .code ≡ 0 → (es : List Four)
@@ -397,9 +396,6 @@ LineShown =
 abbrev pub checkedReads : View → Checked → Bool
 checkedReads v (Good e) = readsStatus v e
 checkedReads v (Bad code) = false
-
-abbrev pub formOf : Four → Checked
-formOf e = checkOf (e .kind) (e .a) (e .b) (e .c)
 
 abbrev pub isStatusEvent : State → Four → Bool
 isStatusEvent s e = checkedReads (viewOf s) (formOf e)
