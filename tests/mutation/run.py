@@ -1,0 +1,231 @@
+#!/usr/bin/env python3
+"""Applies small edits to the code and the definitions, one at a time, and counts how many the prover refuses at a fact.
+
+    tests/mutation/run.py                  one trial for each function and definition, then the report
+    tests/mutation/run.py --rounds 3       three for each; what was tried before is not tried again
+    tests/mutation/run.py --crate chip     of one crate alone
+    tests/mutation/run.py --report         the report of what was tried so far
+
+Each edit is tried in its own crate; one that is still proved there goes against the crates above, in order, until one refuses it. What was
+tried stands in target/mutation/results, a line each, so a run that was stopped goes on where it was. An edit that the compiler refuses, or
+whose refusal says only that a definition has no type or a proof no place, counts as not tried, and the unit's next edit takes its turn.
+"""
+import argparse
+import hashlib
+import json
+import os
+import re
+import shutil
+import subprocess
+import sys
+import threading
+import time
+from collections import Counter
+from pathlib import Path
+
+ROOT = Path(__file__).resolve().parent.parent.parent
+sys.path.insert(0, str(ROOT / "tests"))
+from refusals import errors_of, unfit    # noqa: E402
+from edits import edits    # noqa: E402
+from units import units    # noqa: E402
+
+PLACE = ROOT / "target" / "mutation"
+RESULTS = PLACE / "results"
+ATTEMPTS = 12    # edits of one unit that may turn out to be no trial, in one round
+REFUSED, SURVIVED, UNTRIED = "refused", "survived", "not tried"
+
+
+def dependencies():
+    """Each crate with those that it names, in the order of crates.txt."""
+    found = {}
+    for line in (ROOT / "crates.txt").read_text().splitlines():
+        name, colon, rest = line.partition("#")[0].partition(":")
+        if colon:
+            found[name.strip()] = rest.split()
+    return found
+
+
+def above(crate, deps):
+    """The crates that build on one, directly or not, in the order of crates.txt."""
+    reached = [crate]
+    for name in deps:
+        if name not in reached and any(d in reached for d in deps[name]):
+            reached.append(name)
+    return reached[1:]
+
+
+class Worker:
+    """A copy of the crates and of what is proved of them, in which one edit at a time stands."""
+
+    def __init__(self, number, deps):
+        self.root, self.deps = PLACE / f"worker{number}", deps
+        shutil.rmtree(self.root, ignore_errors=True)
+        (self.root / "target").mkdir(parents=True)
+        shutil.copytree(ROOT / "crates", self.root / "crates")
+        shutil.copy(ROOT / "crates.txt", self.root)
+        for part in ["rlib", "stamp", "bin"]:
+            shutil.copytree(ROOT / "target" / part, self.root / "target" / part, symlinks=True)
+
+    def restore(self, crates):
+        """What is proved of these crates, as it is without an edit."""
+        for name in crates:
+            for part in [f"rlib/{name}.rlib", f"stamp/{name}", f"bin/{name}"]:
+                have, good = self.root / "target" / part, ROOT / "target" / part
+                if have.is_dir():
+                    shutil.rmtree(have)
+                elif have.exists():
+                    have.unlink()
+                if good.is_dir():
+                    shutil.copytree(good, have, symlinks=True)
+                elif good.exists():
+                    shutil.copy2(good, have)
+
+    def check(self, crate):
+        """Exit status and log of one crate's check."""
+        done = subprocess.run(["rt", "check", crate], cwd=self.root, env=os.environ | {"RT_JOBS": "1", "RT_CUT": "0"}, capture_output=True, text=True)
+        log = self.root / "target" / "log" / f"{crate}.out"
+        return done.returncode, log.read_text() if log.exists() else done.stdout + done.stderr
+
+    def verdict(self, unit, edit):
+        """What became of an edit, the crate where that was seen, and the first error or why it was no trial."""
+        path = self.root / unit.path
+        text = path.read_text()
+        path.write_text(text[:edit.start] + edit.new + text[edit.end:])
+        touched = [unit.crate]
+        try:
+            for crate in [unit.crate] + above(unit.crate, self.deps):
+                touched.append(crate)
+                status, log = self.check(crate)
+                if status == 0:
+                    continue
+                return (*self.judged(log, crate, unit), crate)[0:2] + (crate,)
+            return SURVIVED, "", ""
+        finally:
+            path.write_text(text)
+            self.restore(touched)
+
+    def judged(self, log, crate, unit):
+        errors = errors_of(log)
+        first = re.sub(rf"{re.escape(str(self.root))}/", "", errors[0])[:300] if errors else log[-300:]
+        if "logic=not-proved" not in log:
+            # a program that is proved and writes something else is refused by its stored output
+            return (REFUSED, "its program writes something else") if "is not what its file" in log else (UNTRIED, f"not compiled: {first}")
+        if why := unfit(log):
+            return UNTRIED, why.replace(f"{self.root}/", "")
+        if unit.path.suffix == ".antt" and f"/{Path(*unit.path.parts[2:])}:" in errors[0].split(" error")[0]:
+            return UNTRIED, f"no definition: {first}"
+        return REFUSED, first
+
+
+def key_of(unit, edit, text):
+    digest = hashlib.sha256(text.encode()).hexdigest()[:16]
+    return f"{unit.path}:{unit.name}:{edit.start}:{edit.old}:{edit.new}:{digest}"
+
+
+class Results:
+    def __init__(self):
+        self.lock, self.lines = threading.Lock(), {}
+        if RESULTS.exists():
+            for line in RESULTS.read_text().splitlines():
+                entry = json.loads(line)
+                self.lines[entry["key"]] = entry
+
+    def add(self, entry):
+        with self.lock:
+            self.lines[entry["key"]] = entry
+            with RESULTS.open("a") as file:
+                file.write(json.dumps(entry) + "\n")
+
+
+def candidates(crates):
+    """Each unit with its edits and their keys."""
+    for unit in units(ROOT, crates):
+        text = (ROOT / unit.path).read_text()
+        found = edits(text, unit.spans, unit.path.suffix == ".rt")
+        seen = {}
+        for edit in found:
+            seen.setdefault(key_of(unit, edit, text), edit)
+        yield unit, list(seen.items())
+
+
+def run(todo, rounds, jobs, deps, results):
+    """One trial of each unit, then a second of each, and so on."""
+    queue = [(number, unit, found) for number in range(1, rounds + 1) for unit, found in todo]
+    lock, at = threading.Lock(), iter(enumerate(queue, 1))
+
+    def work(number):
+        worker = Worker(number, deps)
+        while True:
+            with lock:
+                place, (wanted, unit, found) = next(at, (None, (None, None, None)))
+            if place is None:
+                return
+            attempts = 0
+            for key, edit in found:
+                tried = [results.lines[k]["verdict"] for k, _ in found if k in results.lines]
+                if len([v for v in tried if v != UNTRIED]) >= wanted or attempts >= ATTEMPTS:
+                    break
+                if key in results.lines:
+                    continue
+                attempts += 1
+                began = time.time()
+                verdict, why, crate = worker.verdict(unit, edit)
+                results.add({"key": key, "unit": f"{unit.path}:{unit.name}", "crate": unit.crate, "kind": edit.kind, "old": edit.old,
+                             "new": edit.new, "verdict": verdict, "at": crate, "why": why, "seconds": round(time.time() - began, 1)})
+                print(f"{place}/{len(queue)} {unit.path}:{unit.name}: {edit.kind}: {verdict} {crate if verdict == REFUSED else ''}", flush=True)
+
+    threads = [threading.Thread(target=work, args=(number,)) for number in range(jobs)]
+    for thread in threads:
+        thread.start()
+    for thread in threads:
+        thread.join()
+
+
+def report(todo, results):
+    """The figures, as a table for docs/MUTATION.md, then every survivor and every unit without a trial."""
+    rows, survivors, bare = {}, [], []
+    for unit, found in todo:
+        sort = "functions" if unit.path.suffix == ".rt" else "definitions"
+        row = rows.setdefault((unit.crate, sort), Counter())
+        row["units"] += 1
+        tried = [results.lines[k] for k, _ in found if k in results.lines]
+        for entry in tried:
+            row[entry["verdict"]] += 1
+            row["own"] += entry["verdict"] == REFUSED and entry["at"] == unit.crate
+            survivors += [entry] * (entry["verdict"] == SURVIVED)
+        if all(entry["verdict"] == UNTRIED for entry in tried):
+            bare.append(f"{unit.path}:{unit.name}")
+        else:
+            row["reached"] += 1
+    print("| Crate | Of | Units | With a trial | Refused in the crate | Refused above | Survived | Not tried |")
+    print("|---|---|---|---|---|---|---|---|")
+    total = Counter()
+    for (crate, sort), row in rows.items():
+        total.update(row)
+        print(f"| {crate} | {sort} | {row['units']} | {row['reached']} | {row['own']} | {row[REFUSED] - row['own']} | {row[SURVIVED]} | {row[UNTRIED]} |")
+    print(f"| all | | {total['units']} | {total['reached']} | {total['own']} | {total[REFUSED] - total['own']} | {total[SURVIVED]} | {total[UNTRIED]} |")
+    for entry in survivors:
+        print(f"survived: {entry['unit']}: {entry['kind']}: {' '.join(entry['old'].split())} -> {' '.join(entry['new'].split())}")
+    for name in bare:
+        print(f"no trial: {name}")
+
+
+def main():
+    parser = argparse.ArgumentParser(description=__doc__, formatter_class=argparse.RawDescriptionHelpFormatter)
+    parser.add_argument("--rounds", type=int, default=1)
+    parser.add_argument("--jobs", type=int, default=2)
+    parser.add_argument("--crate", action="append")
+    parser.add_argument("--report", action="store_true")
+    words = parser.parse_args()
+    deps = dependencies()
+    todo = list(candidates(words.crate or list(deps)))
+    PLACE.mkdir(parents=True, exist_ok=True)
+    results = Results()
+    if not words.report:
+        if subprocess.run(["rt", "check"], cwd=ROOT, stdout=subprocess.DEVNULL).returncode:
+            sys.exit("the crates are not proved as they are")
+        run(todo, words.rounds, words.jobs, deps, results)
+    report(todo, results)
+
+
+main()
