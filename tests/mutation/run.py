@@ -54,11 +54,46 @@ def above(crate, deps):
     return reached[1:]
 
 
+class Reach:
+    """Which crates could notice that a definition says something else: those that import it, or what is said with it, and so on; and where a
+    function's contract does, every crate above it."""
+
+    USE = re.compile(r"^(?:ghost )?use (\S+?)\.\{([^}]*)\}", re.M)
+    NAME = re.compile(r"^ {0,2}(?:(?:abbrev|unfoldable|pub|data|record) )*([^\s(){},;.:]+)(?= :| \()", re.M)
+    WORD = re.compile(r"[^\s(){},;.⌜⌝]+")
+
+    def __init__(self, deps):
+        self.deps, self.files = deps, []
+        for crate in deps:
+            for path in sorted((ROOT / "crates" / crate).rglob("*")):
+                if path.suffix in (".antt", ".rt") and "must-fail" not in path.parts:
+                    text = path.read_text()
+                    taken = {}    # a name as the file has it: the module and the name that it stands for
+                    for module, names in self.USE.findall(text):
+                        for name in names.split(","):
+                            whole, _, local = name.strip().partition(" as ")
+                            taken[local or whole] = (module.rsplit(".", 1)[-1], whole)
+                    parts = [(set(self.WORD.findall(part)), set(self.NAME.findall(part))) for part in self.USE.sub("", text).split("\n\n")]
+                    self.files.append((crate, path, taken, parts))
+
+    def crates(self, unit):
+        changed, found, before = {(unit.path.stem, unit.name)}, set(), None
+        while before != (len(changed), len(found)):
+            before = len(changed), len(found)
+            for crate, path, taken, parts in self.files:
+                here = {local for local, whole in taken.items() if whole in changed} | {name for stem, name in changed if stem == path.stem}
+                for words, named in parts:
+                    if words & here:
+                        found |= {crate} | (set(above(crate, self.deps)) if path.suffix == ".rt" else set())
+                        changed |= {(path.stem, name) for name in named}
+        return found
+
+
 class Worker:
     """A copy of the crates and of what is proved of them, in which one edit at a time stands."""
 
-    def __init__(self, number, deps):
-        self.root, self.deps = PLACE / f"worker{number}", deps
+    def __init__(self, number, deps, reach):
+        self.root, self.deps, self.reach = PLACE / f"worker{number}", deps, reach
         shutil.rmtree(self.root, ignore_errors=True)
         (self.root / "target").mkdir(parents=True)
         shutil.copytree(ROOT / "crates", self.root / "crates")
@@ -81,35 +116,45 @@ class Worker:
                     shutil.copy2(good, have)
 
     def check(self, crate):
-        """Exit status and log of one crate's check."""
+        """Whether a crate, and each below it that is no longer as it was proved, is proved; what was said of those stands in logs."""
+        shutil.rmtree(self.root / "target" / "log", ignore_errors=True)
         done = subprocess.run(["rt", "check", crate], cwd=self.root, env=os.environ | {"RT_JOBS": "1", "RT_CUT": "0"}, capture_output=True, text=True)
-        log = self.root / "target" / "log" / f"{crate}.out"
-        return done.returncode, log.read_text() if log.exists() else done.stdout + done.stderr
+        self.said = done.stdout
+        return done.returncode == 0
+
+    def refusing(self):
+        """The lowest crate that was not proved, and what was said of it."""
+        for crate in self.deps:
+            result, log = (self.root / "target" / "log" / f"{crate}.{end}" for end in ("res", "out"))
+            if result.exists() and result.read_text().strip() != "proved":
+                return crate, log.read_text()
+        sys.exit("the toolchain failed")
 
     def verdict(self, unit, edit):
         """What became of an edit, the crate where that was seen, and the first error or why it was no trial."""
         path = self.root / unit.path
         text = path.read_text()
         path.write_text(text[:edit.start] + edit.new + text[edit.end:])
+        higher = above(unit.crate, self.deps)
+        reached = self.reach.crates(unit)
         touched = [unit.crate]
         try:
-            for crate in [unit.crate] + above(unit.crate, self.deps):
-                touched.append(crate)
-                status, log = self.check(crate)
-                if status == 0:
-                    continue
-                return (*self.judged(log, crate, unit), crate)[0:2] + (crate,)
+            for crate in [unit.crate] + [name for name in higher if name in reached]:
+                touched = [unit.crate] + (higher if crate != unit.crate else [])
+                if not self.check(crate):
+                    refusing, log = self.refusing()
+                    return (*self.judged(log, unit), refusing)
             return SURVIVED, "", ""
         finally:
             path.write_text(text)
             self.restore(touched)
 
-    def judged(self, log, crate, unit):
+    def judged(self, log, unit):
         errors = errors_of(log)
         first = re.sub(rf"{re.escape(str(self.root))}/", "", errors[0])[:300] if errors else log[-300:]
         if "logic=not-proved" not in log:
             # a program that is proved and writes something else is refused by its stored output
-            return (REFUSED, "its program writes something else") if "is not what its file" in log else (UNTRIED, f"not compiled: {first}")
+            return (REFUSED, "its program writes something else") if "is not what its file" in self.said else (UNTRIED, f"not compiled: {first}")
         if why := unfit(log):
             return UNTRIED, why.replace(f"{self.root}/", "")
         if unit.path.suffix == ".antt" and f"/{Path(*unit.path.parts[2:])}:" in errors[0].split(" error")[0]:
@@ -151,10 +196,10 @@ def candidates(crates):
 def run(todo, rounds, jobs, deps, results):
     """One trial of each unit, then a second of each, and so on."""
     queue = [(number, unit, found) for number in range(1, rounds + 1) for unit, found in todo]
-    lock, at = threading.Lock(), iter(enumerate(queue, 1))
+    lock, at, reach = threading.Lock(), iter(enumerate(queue, 1)), Reach(deps)
 
     def work(number):
-        worker = Worker(number, deps)
+        worker = Worker(number, deps, reach)
         while True:
             with lock:
                 place, (wanted, unit, found) = next(at, (None, (None, None, None)))
