@@ -138,8 +138,8 @@ def missing(text):
 def documents():
     wrong = "`Step.noSuch` `NoSuch.antt` `chip::noSuch` `crates/none` `docs/none` | rules/no_such |"
     check("a name that stands for nothing is found", [] if len(missing(wrong)) == 6 else missing(wrong) or ["it is not"])
-    for name in ["README.md", "docs/ALARMS.md", "docs/BENCHMARK.md", "docs/DECISIONS.md", "docs/PROMISES.md", "docs/PUBLIC.md", "docs/RULES.md"]:
-        check(f"{name}: the names in it exist", missing((ROOT / name).read_text()))
+    for path in [ROOT / "README.md", *sorted(ROOT.glob("docs/**/*.md"))]:
+        check(f"{path.relative_to(ROOT)}: the names in it exist", missing(path.read_text()))
 
 
 # ---- must-fail edits
@@ -178,6 +178,31 @@ def edits():
     check(f"{seen} must-fail edits are refused in a proof that fits the code's form, those of the rules by a table or the theorem", found)
 
 
+# ---- what the proofs rest on
+
+
+def resting(said, axioms):
+    """What a crate's check took on trust beyond what docs/PROMISES.md says: its lines, and how many axioms it may count."""
+    lines = [line for line in said.splitlines() if line.startswith("logic=")]
+    if len(lines) != 1 or not lines[0].startswith("logic=proved "):
+        return ["it is not proved"]
+    words = dict(word.partition("=")[::2] for word in lines[0].split())
+    found = [] if int(words.get("axioms", 0)) == axioms else [f"axioms: {words.get('axioms', 0)}"]
+    trusted = {"logic-built": "trusted", "libraries-built": "trusted"}
+    return found + [f"{name}={value}" for name, value in words.items() if name == "foreign" or value == "trusted" and name not in trusted]
+
+
+def trust():
+    good = "logic=proved functions=4 axioms=2 target=x native=nat logic-built=trusted libraries-built=trusted"
+    check("two axioms where two are meant are none too many", resting(good, 2))
+    for name, said in [("an axiom too many", good), ("a cache", good.replace("axioms=2", "cache=trusted")), ("a crate that is not proved", "logic=not-proved")]:
+        check(f"{name} is found", [] if resting(said, 0) else ["it is not"])
+    for path in sorted((ROOT / "crates").iterdir()):
+        log = ROOT / "target" / "log" / f"{path.name}.out"
+        axioms = 2 if (path / "src" / "main.rt").exists() else 0
+        check(f"{path.name} rests on {axioms} axioms and no cache", resting(log.read_text(), axioms) if log.exists() else ["it was not checked"])
+
+
 # ---- the hand-worked cases
 
 
@@ -201,6 +226,7 @@ def main():
     contracts()
     documents()
     edits()
+    trust()
     cases()
     end()
 
