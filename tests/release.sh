@@ -1,0 +1,21 @@
+#!/usr/bin/env bash
+# The checks of a release, which docs/RELEASE.md describes; the last line comes only if all passed.
+set -euo pipefail
+cd "$(dirname "$0")/.."
+
+said=()
+# Runs one part, shows what it prints, and keeps its last line.
+part() {
+    local out
+    out=$(mktemp)
+    "$@" 2>&1 | tee "$out"
+    said+=("$*: $(tail -n 1 "$out")")
+    rm -f "$out"
+}
+
+part .ci/run
+part tests/compare/run.sh --seed 7 --count 300000
+part tests/fuzz/run.sh --minutes 10
+part tests/mutation/run.py
+printf '%s\n' "${said[@]}"
+echo "release check passed"
