@@ -144,19 +144,24 @@ def documents():
 
 # ---- must-fail edits
 
-# Which file must refuse an edit of the rules: a table, or the alarm theorem; of these the theorem itself.
-TABLES, THEOREM = "proofs/Tables.antt", "proofs/Alarm.antt"
+# Which file must refuse an edit of the rules: a table, or the alarm theorem; of these the theorem itself, of those what an event leaves alone.
+TABLES, THEOREM, KEPT = "proofs/Tables.antt", "proofs/Alarm.antt", "proofs/Kept.antt"
 ALARMS = [
     "read_clears_every_flag", "read_clears_no_flag", "compares_outside_standby", "no_standby_comparison",
     "compares_what_was_never_converted", "read_clears_the_latch", "response_always_clears", "open_diode_waits_for_the_count",
     "standby_raises_the_count", "reset_keeps_a_flag", "reset_keeps_a_verdict", "reset_keeps_the_latch", "reset_keeps_the_run_count", "reset_keeps_the_state",
 ]
 
+LEFT = [
+    "rate_write_masks_alert", "refused_start_moves_the_pointer", "response_moves_the_pointer", "response_sets_the_mask", "standby_alters_a_value",
+    "status_read_lifts_a_limit",
+]
+
 
 def places(crate, name):
     if crate != "rules":
         return []
-    return [THEOREM] if name in ALARMS else [TABLES, THEOREM]
+    return [THEOREM] if name in ALARMS else [KEPT] if name in LEFT else [TABLES, THEOREM]
 
 
 def edits():
@@ -164,8 +169,8 @@ def edits():
     log = "a.antt:1:1: error: `rw`: no occurrence of the path's left endpoint"
     check("an edit refused at a rewrite counts", [unfit(log, [])] if unfit(log, []) else [])
     check("an edit of the rules refused outside the tables and the theorem is found", [] if unfit(log, [TABLES, THEOREM]) else ["it is not"])
-    missing = [name for name in ALARMS if not (ROOT / "crates" / "rules" / "must-fail" / f"{name}.edit").exists()]
-    check("the edits that the alarm theorem must refuse are there", missing)
+    missing = [name for name in ALARMS + LEFT if not (ROOT / "crates" / "rules" / "must-fail" / f"{name}.edit").exists()]
+    check("the edits that the alarm theorem and what an event leaves alone must refuse are there", missing)
     found, seen = [], 0
     for path in sorted(ROOT.glob("crates/*/must-fail/*.edit")):
         crate = path.parts[-3]

@@ -9,6 +9,7 @@
 Each edit is tried in its own crate; one that is still proved there goes against the crates above, in order, until one refuses it. What was
 tried stands in target/mutation/results, a line each, so a run that was stopped goes on where it was. An edit that the compiler refuses, or
 whose refusal says only that a definition has no type or a proof no place, counts as not tried, and the unit's next edit takes its turn.
+A survivor that tests/mutation/explained.txt does not explain fails the run.
 """
 import argparse
 import hashlib
@@ -31,6 +32,7 @@ from units import units    # noqa: E402
 
 PLACE = ROOT / "target" / "mutation"
 RESULTS = PLACE / "results"
+EXPLAINED = Path(__file__).with_name("explained.txt")
 ATTEMPTS = 12    # edits of one unit that may turn out to be no trial, in one round
 REFUSED, SURVIVED, UNTRIED = "refused", "survived", "not tried"
 
@@ -226,8 +228,19 @@ def run(todo, rounds, jobs, deps, results):
         thread.join()
 
 
+def shape(entry):
+    """An edit as explained.txt has it."""
+    return f"{entry['unit']} | {' '.join(entry['old'].split())} -> {' '.join(entry['new'].split())}"
+
+
+def explained():
+    """Each edit that is explained, with why."""
+    lines = [line for line in EXPLAINED.read_text().splitlines() if line and not line.startswith("#")]
+    return {line.rpartition(" | ")[0]: line.rpartition(" | ")[2] for line in lines}
+
+
 def report(todo, results):
-    """The figures, as a table for docs/MUTATION.md, then every survivor and every unit without a trial."""
+    """The figures, as a table for docs/MUTATION.md, then every survivor and every unit without a trial. Gives the survivors without an explanation."""
     rows, survivors, bare = {}, [], []
     for unit, found in todo:
         sort = "functions" if unit.path.suffix == ".rt" else "definitions"
@@ -249,10 +262,12 @@ def report(todo, results):
         total.update(row)
         print(f"| {crate} | {sort} | {row['units']} | {row['reached']} | {row['own']} | {row[REFUSED] - row['own']} | {row[SURVIVED]} | {row[UNTRIED]} |")
     print(f"| all | | {total['units']} | {total['reached']} | {total['own']} | {total[REFUSED] - total['own']} | {total[SURVIVED]} | {total[UNTRIED]} |")
+    why = explained()
     for entry in survivors:
-        print(f"survived: {entry['unit']}: {entry['kind']}: {' '.join(entry['old'].split())} -> {' '.join(entry['new'].split())}")
+        print(f"survived: {shape(entry)} | {why.get(shape(entry), 'NOT EXPLAINED')}")
     for name in bare:
         print(f"no trial: {name}")
+    return [entry for entry in survivors if shape(entry) not in why]
 
 
 def main():
@@ -270,7 +285,10 @@ def main():
         if subprocess.run(["rt", "check"], cwd=ROOT, stdout=subprocess.DEVNULL).returncode:
             sys.exit("the crates are not proved as they are")
         run(todo, words.rounds, words.jobs, deps, results)
-    report(todo, results)
+    left = report(todo, results)
+    tried = Counter(entry["verdict"] for entry in results.lines.values())
+    print(f"{tried[REFUSED]} refused at a fact, {tried[SURVIVED]} survived, {len(left)} of them not explained")
+    sys.exit(len(left) > 0)
 
 
 main()

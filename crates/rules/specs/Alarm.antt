@@ -1,5 +1,6 @@
 -- No alarm is lost and none invented, in any sequence of events from the latest power-on. Read from top to bottom: what the history is given;
--- what each event made happen; the flags, spells and the latch by that history; the claims. The proofs are in proofs/Alarm.antt. Assumes nothing.
+-- what each event made happen; the flags, spells and the latch by that history; the claims. The proofs are in proofs/Alarm.antt and
+-- proofs/Shown.antt. Assumes nothing.
 use Prim.Native.Nat.{ℕ, _+_}
 use mathlib.Core.Path.{_≡_}
 use mathlib.Core.Bool.{Bool, cond, not, _||_, _&&_, true, false}
@@ -30,8 +31,9 @@ use Rattle.rules.specs.Values.{scaleOf}
 
 -- ---- What the history is given ----
 
--- "never from stored flags": of a state, only the registers as written and the measured values, as the step stores them (that it stores what was
--- written and measured is its own contract). No flag, no verdict, no run count, no converted mark, no latch, and not whether a conversion runs
+-- "never from stored flags": of a state, only its address, pointer, registers and values, as the step stores them (that only a write, a
+-- conversion and a power-on change these is claimed in Kept.antt). No flag, no verdict, no run count, no converted mark, no latch, and not whether
+-- a conversion runs
 pub record View : Type 0 where
   pub address : ℕ
   pub pointer : ℕ
@@ -83,7 +85,7 @@ pub data Deed : Type 0 where
   StatusRead : Deed  -- register 02 was read
   Asked : Bool → Deed  -- an alert response was asked for; were configuration bits 7 and 5 both 0 before it
 
--- beside it the registers and values once the event was over, and the reply that the step gave
+-- beside it what is seen once the event was over, and the reply that the step gave
 pub record Happened : Type 0 where
   pub deed : Deed
   pub seen : View
@@ -130,14 +132,15 @@ abbrev pub deedIf : Bool → Deed → Deed
 deedIf happens d = cond happens d Idle
 
 -- "A one-shot write in standby with no conversion running starts one"; "When bit 6 goes from 0 to 1 a running conversion ends with no result"; "In
--- standby, a write to .. compares each channel converted since power-on"
+-- standby, a write to .. compares each channel converted since power-on". Only a write to 09 changes bit 6, so the second needs no command
 abbrev pub writeDeed : History → View → View → ℕ → Deed
-writeDeed earlier before v command =
+writeDeed earlier before seen command =
     cond (eqb command 0x0f) (deedIf (standby (before .config) && not (running earlier)) Began)
-    (cond (not (standby (before .config)) && standby (v .config)) CutOff
+    (cond (not (standby (before .config)) && standby (seen .config)) CutOff
     (deedIf (comparesAt command && standby (before .config) && everConverted earlier) Compared))
 
--- "Kinds 3 and 4 reply the register at the pointer": a status read is one of register 02
+-- "Kinds 3 and 4 reply the register at the pointer": a status read is one of register 02. This is asked of an event; isStatusRead below of a deed,
+-- isStatusEvent of four numbers
 abbrev pub readsStatus : View → Event → Bool
 readsStatus before Reset = false
 readsStatus before (Send a n) = false
@@ -148,16 +151,16 @@ readsStatus before Respond = false
 readsStatus before Start = false
 readsStatus before (End l r broken) = false
 
--- what an event did, by the registers before and after it; one for another address did nothing
+-- what an event did, by what was before it and what is seen after it; one for another address did nothing. A reset is not asked: withEvent begins anew
 abbrev pub deedOf : History → View → View → Event → Deed
-deedOf earlier before v Reset = Idle
-deedOf earlier before v (Send a n) = Idle
-deedOf earlier before v (Write a n b) = cond (eqb a (before .address)) (writeDeed earlier before v n) Idle
-deedOf earlier before v (Read a n) = deedIf (readsStatus before (Read a n)) StatusRead
-deedOf earlier before v (Receive a) = deedIf (readsStatus before (Receive a)) StatusRead
-deedOf earlier before v Respond = Asked (lineFree before)
-deedOf earlier before v Start = deedIf (not (standby (before .config)) && not (running earlier)) Began
-deedOf earlier before v (End l r broken) = deedIf (running earlier) (Measured broken)
+deedOf earlier before seen Reset = Idle
+deedOf earlier before seen (Send a n) = Idle
+deedOf earlier before seen (Write a n b) = cond (eqb a (before .address)) (writeDeed earlier before seen n) Idle
+deedOf earlier before seen (Read a n) = deedIf (readsStatus before (Read a n)) StatusRead
+deedOf earlier before seen (Receive a) = deedIf (readsStatus before (Receive a)) StatusRead
+deedOf earlier before seen Respond = Asked (lineFree before)
+deedOf earlier before seen Start = deedIf (not (standby (before .config)) && not (running earlier)) Began
+deedOf earlier before seen (End l r broken) = deedIf (running earlier) (Measured broken)
 
 -- a power-on begins the history anew
 abbrev pub isReset : Checked → Bool
@@ -173,13 +176,13 @@ isReset (Bad code) = false
 
 -- a refused event does nothing
 abbrev pub checkedDeed : History → View → View → Checked → Deed
-checkedDeed earlier before v (Good e) = deedOf earlier before v e
-checkedDeed earlier before v (Bad code) = Idle
+checkedDeed earlier before seen (Good e) = deedOf earlier before seen e
+checkedDeed earlier before seen (Bad code) = Idle
 
--- the history with one event more, of which it is told the registers and values before and after it, and the reply
+-- the history with one event more, of which it is told what was before it, what is seen after it, and the reply
 abbrev pub withEvent : History → View → View → ℕ → Checked → History
-withEvent earlier before v reply k =
-    cond (isReset k) [] (record { deed = checkedDeed earlier before v k; seen = v; reply = reply } ∷ earlier)
+withEvent earlier before seen reply k =
+    cond (isReset k) [] (record { deed = checkedDeed earlier before seen k; seen = seen; reply = reply } ∷ earlier)
 
 abbrev pub withStep : History → State → Four → History
 withStep earlier s e =
@@ -273,12 +276,13 @@ isStatusRead (Asked free) = false
 abbrev pub clears : Flag → Happened → History → Bool
 clears f h earlier = isStatusRead (h .deed) && not (isFault (latest f earlier))
 
--- "The flag stands exactly if a comparison since the last clearing read found the fault": looking back from now
+-- "The flag stands exactly if a comparison since the last clearing read found the fault": looking back from now. A status read compares nothing, so
+-- no event does both
 unfoldable pub stands : Flag → History → Bool
 stands f [] = false
 stands f (h ∷ earlier) = cond (clears f h earlier) false (finds f h || stands f earlier)
 
--- "The first such comparison opens a spell"
+-- "The first such comparison opens a spell"; weight b 1 is 1 where b holds, otherwise 0
 unfoldable pub spellsOpened : Flag → History → ℕ
 spellsOpened f [] = 0
 spellsOpened f (h ∷ earlier) = weight (finds f h && not (stands f earlier)) 1 + spellsOpened f earlier
@@ -301,7 +305,7 @@ readsThatClosed f (h ∷ earlier) = weight (clears f h earlier && bit (placeOf f
 abbrev pub findsLimit : Happened → Bool
 findsLimit h = any (map (λ (f : Flag). finds f h) limitFlags)
 
--- "completed conversions in a row in which any of the four limit faults was found"
+-- "completed conversions in a row in which any of the four limit faults was found"; not held at 4, since no more are ever needed
 unfoldable pub inARow : History → ℕ
 inARow [] = 0
 inARow (h ∷ earlier) = cond (measures (h .deed)) (cond (findsLimit h) (inARow earlier + 1) 0) (inARow earlier)
@@ -339,7 +343,7 @@ abbrev pub allClear : History → Bool
 allClear earlier = not (any (map (λ (f : Flag). stands f earlier) fiveFlags))
 
 -- "The ALERT latch stands exactly if something that sets it came after the last alert response answered with all five flags 0": looking
--- back from now
+-- back from now. A response is answered by the latch as it stood before it
 unfoldable pub latched : History → Bool
 latched [] = false
 latched (h ∷ earlier) =
@@ -347,12 +351,13 @@ latched (h ∷ earlier) =
 
 -- ---- The claims ----
 
--- the chip's flag, and its state and history after events sent since it was powered on
+-- the chip's flag
 abbrev pub flagAt : State → Flag → Bool
 flagAt s (Limit ch Above) = sensorAt s ch .marks .high .flag
 flagAt s (Limit ch Below) = sensorAt s ch .marks .low .flag
 flagAt s OpenDiode = s .remote .marks .diode .flag
 
+-- the state once these events were sent to a chip that was just powered on
 abbrev pub stateOf : ℤ → List Four → State
 stateOf address es = after (madeOf address .state) es
 
@@ -392,7 +397,6 @@ LineShown =
     (address : ℤ) → madeOf address .code ≡ 0 → (es : List Four) (e : Four)
     → answerFor (stateOf address es) e .alert ≡ not (latched (historyThen address es e []) && lineFree (viewOf (stateThen address es e [])))
 
--- a status read is done, and its reply has each of the five flags as the history has it
 abbrev pub checkedReads : View → Checked → Bool
 checkedReads v (Good e) = readsStatus v e
 checkedReads v (Bad code) = false
@@ -400,6 +404,7 @@ checkedReads v (Bad code) = false
 abbrev pub isStatusEvent : State → Four → Bool
 isStatusEvent s e = checkedReads (viewOf s) (formOf e)
 
+-- a status read is done, and its reply has each of the five flags as the history has it
 abbrev pub ReadsShow : Type 0
 ReadsShow =
     (address : ℤ) → madeOf address .code ≡ 0 → (es : List Four) (e : Four) → isStatusEvent (stateOf address es) e ≡ true
@@ -427,11 +432,12 @@ abbrev pub clearsLatchNow : History → Bool
 clearsLatchNow [] = false
 clearsLatchNow (h ∷ earlier) = isAnswered (h .deed) (latched earlier) && allClear earlier
 
--- among events sent to a state, no power-on and no status read; no power-on and no alert response answered with all five flags 0
+-- among events sent to a state, no power-on and no status read
 unfoldable pub unread : State → List Four → Bool
 unread s [] = true
 unread s (e ∷ es) = not (isReset (formOf e)) && not (isStatusEvent s e) && unread (answerFor s e .state) es
 
+-- no power-on and no alert response answered with all five flags 0
 unfoldable pub uncleared : History → State → List Four → Bool
 uncleared h s [] = true
 uncleared h s (e ∷ es) =
@@ -451,8 +457,8 @@ NoneInvented =
     (address : ℤ) → madeOf address .code ≡ 0 → (es : List Four) (r : Four) (f : Flag) → isStatusEvent (stateOf address es) r ≡ true
     → stands f (historyOf address es) ≡ false → bit (placeOf f) (answerFor (stateOf address es) r .reply) ≡ false
 
--- from what set the latch until an alert response is answered with all flags 0, ALERT is low while configuration bits 7 and 5 are 0 (the line of
--- a state is the one that its answer reports)
+-- from what set the latch until an alert response is answered with all flags 0, ALERT is low while configuration bits 7 and 5 are 0 (LineShown says
+-- that the answers report it)
 abbrev pub AlertStaysLow : Type 0
 AlertStaysLow =
     (address : ℤ) → madeOf address .code ≡ 0 → (es : List Four) (e : Four) (later : List Four)

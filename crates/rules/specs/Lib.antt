@@ -22,3 +22,4 @@ pub mod BenchCases
 pub mod RuleCases
 pub mod Sound
 pub mod Alarm
+pub mod Kept

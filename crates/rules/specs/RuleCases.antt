@@ -116,6 +116,7 @@ ruleRows =
     row (answered (highTherm ∷ hot (reset ∷ start ∷ status ∷ []))) (0 ∷ 128 ∷ 1 ∷ 1 ∷ []) ∷
     -- codes 1 to 5, in their order
     row (answered (four 8 (pos 1) (pos 0) (pos 0) ∷ [])) (1 ∷ 0 ∷ 1 ∷ 1 ∷ []) ∷
+    row (answered (four 0 (pos 1) (pos 0) (pos 0) ∷ [])) (2 ∷ 0 ∷ 1 ∷ 1 ∷ []) ∷
     row (answered (four 6 (pos 0) (pos 0) (pos 1) ∷ [])) (2 ∷ 0 ∷ 1 ∷ 1 ∷ []) ∷
     row (answered (four 3 (pos 128) (pos 0) (pos 0) ∷ [])) (2 ∷ 0 ∷ 1 ∷ 1 ∷ []) ∷
     row (answered (four 3 (pos 77) (pos 256) (pos 0) ∷ [])) (2 ∷ 0 ∷ 1 ∷ 1 ∷ []) ∷
