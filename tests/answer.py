@@ -167,7 +167,7 @@ def too_much(room):
     done = run("answer.sh", trace)
     check("answers of nearly 16 MiB", differs((done[0], done[1] == answer(0, 0, 1, 1) + answer(4, 0, 1, 1) * 541199, done[2]), (0, True, "")))
     trace.write_text(START * 541202)
-    said = "no room for the answer to this record (record 541201, behind 10282800 bytes): all answers have at most 16777216 bytes"
+    said = "no room for the answer to this record (record 541201, behind 10282800 bytes): the answers together have at most 16777216 bytes (16 MiB)"
     done = run("answer.sh", trace, "-o", out)
     check("one answer more is refused by its place", differs((done, sorted(one.name for one in room.iterdir()), out.read_text()),
                                                              ((1, "", f"{trace}:2164801: {said}\n"), ["big.trace", "x.answers"], "as it was")))
@@ -222,6 +222,10 @@ def devices(room):
     done = run("answer.sh", trace, "-o", out, preexec_fn=lambda: resource.setrlimit(resource.RLIMIT_FSIZE, (limit, limit)))
     check("a file that may not grow so far, and no part of it is left", differs((done, sorted(one.name for one in room.iterdir()), out.read_text()),
                                                                                  ((1, "", f"{out}: File too large\n"), ["long.trace", "x.answers"], "as it was")))
+    with (room / "wrote").open("w") as file:
+        done = subprocess.run([TOOLS / "answer.sh", trace], stdout=file, stderr=subprocess.PIPE, text=True,
+                              preexec_fn=lambda: resource.setrlimit(resource.RLIMIT_FSIZE, (limit, limit)))
+    check("nor may standard output", differs((done.returncode, done.stderr), (1, "standard output: File too large\n")))
     ours, theirs = os.pipe()
     os.close(ours)
     done = subprocess.run([TOOLS / "answer.sh", trace], stdout=theirs, stderr=subprocess.PIPE, text=True)
@@ -243,7 +247,7 @@ def at_terminal(words, slowed=False, **more):
     os.set_blocking(ours, False)
     said = b""
     with tempfile.TemporaryFile() as wrote:
-        program = subprocess.Popen(words, stdout=wrote, stderr=theirs, **{"stdin": subprocess.DEVNULL} | more)
+        program = subprocess.Popen(words, stdout=wrote, **{"stdin": subprocess.DEVNULL, "stderr": theirs} | more)
         os.close(theirs)
         over = False
         while not over:
@@ -274,8 +278,14 @@ def progress(room):
     numbers = [int(number) for number in re.findall(r"(\d+) %", said)]
     check("a terminal is told how far it is, and the line is wiped", [] if shown and numbers == sorted(numbers) and len(set(numbers)) > 2 and numbers[-1] <= 100
           else [repr(said)])
-    check("a pipe is told nothing", differs(run("answer.sh", trace, "-o", room / "x")[2], ""))
-    check("nor is a terminal of a short trace", differs(at_terminal([TOOLS / "answer.sh", "/dev/null"]), (0, "", "")))
+    short = room / "short.trace"
+    short.write_text(START * 25000)
+    code, out, said = at_terminal([TOOLS / "answer.sh", short])
+    check("nothing of a trace that is answered at once", differs((code, out.count("code="), said), (0, 25000, "")))
+    short.write_text(START * 150000)
+    with (room / "said").open("w") as file:
+        code, out, _ = at_terminal([TOOLS / "answer.sh", short], slowed=True, stderr=file)
+    check("nor is anything told where there is no terminal", differs((code, out.count("code="), (room / "said").read_text()), (0, 150000, "")))
     with trace.open("a") as file:
         file.write("kind=3\n")
     code, out, said = at_terminal([TOOLS / "answer.sh", trace])

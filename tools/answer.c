@@ -248,7 +248,7 @@ int main(int count, char **words)
     if (code == DLAVETH_MALFORMED)
         return malformed(name, length, numbers[2], numbers[1]);
     if (code == DLAVETH_NO_ROOM)
-        return fail("%s:%zu: no room for the answer to this record (record %zu, behind %zu bytes): all answers have at most %zu bytes", name,
+        return fail("%s:%zu: no room for the answer to this record (record %zu, behind %zu bytes): the answers together have at most %zu bytes (16 MiB)", name,
                     LINES * numbers[1] + 1, numbers[1] + 1, numbers[2], room);
     if (out && strcmp(out, "-") != 0)
         return save(out, &read_from, output, numbers[3]);

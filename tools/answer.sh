@@ -21,7 +21,7 @@ END
 done
 
 here=$PWD
-cd "$(dirname "$0")/.."
+CDPATH='' cd "$(dirname "$0")/.."    # with one, cd may print
 {
     . tools/x86.sh
     x86_tool answer
