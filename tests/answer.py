@@ -294,7 +294,7 @@ def progress(room):
 
 
 def built_first(room):
-    """A stand-in for rt, which makes what it is asked for at once and counts."""
+    """With a stand-in for rt, which makes what it is asked for at once."""
     for name in "bin", "tools", "crates":
         (room / name).mkdir()
     (room / "crates.txt").touch()
