@@ -96,6 +96,8 @@ def main():
                 sys.exit(f"{path.relative_to(ROOT)} is not what tests/cases.txt makes: run tools/cases.py make")
     elif verb == "show":
         show()
+    elif verb in ("-h", "--help"):
+        print(__doc__.strip())
     else:
         sys.exit(__doc__)
 

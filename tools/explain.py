@@ -39,7 +39,8 @@ def four_by_four(lines, names):
         name = names[(place - 1) % len(names)]
         match = re.fullmatch(name + "=" + NUMBER, line)
         if not match:
-            raise Bad(place, f"{name}=NUMBER wanted, {line[:40]!r} found")
+            returns = ", a line that ends with byte 13 (carriage return) before byte 10" if line.endswith("\r") else ""
+            raise Bad(place, f"{name}=NUMBER wanted, {line[:40]!r} found{returns}")
         found.append(int(match[1]))
     if len(found) % len(names):
         raise Bad(len(lines), f"cut short: {names[len(found) % len(names)]}=NUMBER wanted behind this line")
@@ -169,8 +170,8 @@ def read(path):
 
 def main():
     parser = argparse.ArgumentParser(description=__doc__)
-    parser.add_argument("trace")
-    parser.add_argument("answers", help="- is standard input")
+    parser.add_argument("trace", help="the records")
+    parser.add_argument("answers", help="what the chip answered to them, with or without the small program's last line; - is standard input")
     given = parser.parse_args()
     path = given.trace
     try:

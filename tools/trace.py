@@ -104,7 +104,7 @@ def records(text, address):
                 for event, behind in zip(events, [[]] * (len(events) - 1) + [rest]):
                     found.append(record(event[0], event[1:] + behind, address))
         except Bad as bad:
-            wrong.append((place, str(bad)))
+            wrong.append((place, "".join(one if one.isprintable() else "?" for one in str(bad))))    # a terminal obeys the rest
     return found, wrong
 
 

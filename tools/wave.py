@@ -293,7 +293,7 @@ def waves(trace, address, name):
 
 def main():
     parser = argparse.ArgumentParser(description=__doc__, formatter_class=argparse.RawDescriptionHelpFormatter)
-    parser.add_argument("trace")
+    parser.add_argument("trace", help=f"the records, at most {MOST}")
     parser.add_argument("--address", type=int, choices=[76, 77], default=USUAL_ADDRESS, help=f"the chip's bus address, {USUAL_ADDRESS} where none is given")
     parser.add_argument("-o", metavar="NAME", dest="name", help="NAME.vcd and NAME.png are written; where none is given, the trace's path without .trace")
     given = parser.parse_args()

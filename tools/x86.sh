@@ -2,6 +2,7 @@
 # code; on another machine Debian's cross compiler and emulator stand in, and are installed where they are missing.
 #   "${x86_cc[@]}" FILES "$x86_library" -o PROGRAM    builds
 #   "${x86_run[@]}" PROGRAM                           runs; empty on x86-64
+#   x86_tool NAME                                     builds target/tools/NAME of tools/NAME.c, where it is missing or old
 
 . tools/need.sh
 need gcc gcc libc6-dev
@@ -18,5 +19,18 @@ fi
 x86_library=target/staticlib/libreplay.a
 if [[ ! -e $x86_library || -n $(find crates crates.txt -newer "$x86_library" -print -quit) ]]; then
     mkdir -p target
+    if [[ -t 2 ]]; then
+        echo "proving and building the library: some three minutes at the first run" >&2
+    fi
     rt staticlib replay >target/staticlib.out 2>&1 || { cat target/staticlib.out >&2; exit 1; }
 fi
+
+x86_tool() {
+    local program=target/tools/$1 part
+    if [[ ! -e $program || -n $(find "tools/$1.c" include "$x86_library" -newer "$program" -print -quit) ]]; then
+        mkdir -p target/tools
+        part=$(mktemp "$program.XXXXXX")    # two runs at once build aside and each moves a whole program in
+        "${x86_cc[@]}" -std=c99 -O1 -Wall -Wextra -Wpedantic -Wconversion -Iinclude "tools/$1.c" "$x86_library" -o "$part" || { rm -f "$part"; return 1; }
+        mv "$part" "$program"
+    fi
+}

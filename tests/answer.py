@@ -1,0 +1,405 @@
+#!/usr/bin/env python3
+"""Tries tools/answer.sh and tools/show.py, on bad input, files and devices too, and what the scripts tell a terminal. Needs the library, as
+examples/run.sh does. The last line is 'N passed, M failed'.
+"""
+import os
+import pty
+import re
+import resource
+import shutil
+import signal
+import subprocess
+import tempfile
+import time
+from pathlib import Path
+
+from checks import check, differs, end
+
+ROOT = Path(__file__).resolve().parent.parent
+TOOLS = ROOT / "tools"
+TRACES = ROOT / "tests" / "traces"
+MOST = 16 * 1024 * 1024    # bytes of a trace, and of its answers
+NUMBER = ": 1 to 5 digits, a minus before them where negative, no plus, no leading zero, no -0, no space"
+
+
+def run(tool, *words, given=b"", **more):
+    """Exit code, standard output and standard error."""
+    done = subprocess.run([TOOLS / tool, *words], input=given, capture_output=True, **more)
+    return done.returncode, done.stdout.decode(), done.stderr.decode()
+
+
+def record(*numbers):
+    return "kind=%d\na=%d\nb=%d\nc=%d\n" % numbers
+
+
+def answer(*numbers):
+    return "code=%d\nreply=%d\nalert=%d\ntherm=%d\n" % numbers
+
+
+START = record(6, 0, 0, 0)
+
+
+def held(room):
+    """The files of a folder, with what is in them."""
+    return {one.name: one.read_text() for one in room.iterdir() if one.is_file()}
+
+
+# ---- answers
+
+
+def recorded(room):
+    """Every recorded trace, but those that are for an output with little room."""
+    wrong, seen, addresses = [], 0, set()
+    for row in (TRACES / "INDEX.txt").read_text().splitlines():
+        name, address, code, space, *_ = row.split()
+        if row.startswith("#") or code != "0" and space != "-":
+            continue
+        trace, answers = TRACES / f"{name}.trace", (TRACES / f"{name}.answers").read_text()
+        have = run("answer.sh", "--address", address, trace)
+        seen += 1
+        addresses.add(address)
+        if code == "0":
+            wrong += differs((name, *have), (name, 0, answers, ""))
+            continue
+        lines = answers.count("\n")    # a record has as many
+        used = len(b"".join(trace.read_bytes().splitlines(True)[:lines]))
+        place = f"{trace}:{lines + 1}: no record begins here (record {lines // 4 + 1}, behind {used} bytes): "
+        if have[:2] != (1, "") or not have[2].startswith(place) or have[2].count("\n") != 1:
+            wrong.append(f"{name}: {place!r} wanted, {have} found")
+    check(f"{seen} recorded traces are answered as recorded, or refused with the place", wrong or ([] if seen > 60 else ["so few"]))
+    check("both addresses are among them", differs(addresses, {"76", "77"}))
+
+
+def streams(room):
+    trace, answers = TRACES / "address-77.trace", (TRACES / "address-77.answers").read_text()
+    data = trace.read_bytes()
+    good = 0, answers, ""
+    check("standard input", differs(run("answer.sh", "--address", "77", given=data), good))
+    check("standard input as -, and the option behind it", differs(run("answer.sh", "-", "--address=77", given=data), good))
+    check("the other address answers otherwise", differs(run("answer.sh", trace)[1] == answers, False))
+    check("an empty trace has no answers", differs(run("answer.sh"), (0, "", "")))
+    check("standard output as -", differs(run("answer.sh", "--address", "77", "-o", "-", trace, cwd=room), good))
+    check("and no file of that name", differs(held(room), {}))
+    (room / "a b").mkdir()
+    (room / "a b" / "the trace").write_bytes(data)
+    done = run("answer.sh", "--address", "77", "-o", "a b/the answers", "a b/the trace", cwd=room)
+    check("-o, names with spaces, from another folder", differs((done, held(room / "a b")), ((0, "", ""), {"the trace": data.decode(), "the answers": answers})))
+    umask = os.umask(0)
+    os.umask(umask)
+    check("a new file has the usual rights", differs((room / "a b" / "the answers").stat().st_mode & 0o777, 0o666 & ~umask))
+    old, link = room / "old", room / "link"
+    old.write_text("as it was")
+    old.chmod(0o640)
+    link.symlink_to("old")
+    done = run("answer.sh", "--address", "77", "-o", link, trace)
+    check("behind a link, an older file is replaced and keeps its rights",
+          differs((done, link.is_symlink(), held(room), old.stat().st_mode & 0o777), ((0, "", ""), True, {"old": answers, "link": answers}, 0o640)))
+    done = run("answer.sh", "-o", room / "none", "/dev/null")
+    check("an empty trace makes an empty file", differs((done, (room / "none").read_text()), ((0, "", ""), "")))
+
+
+# ---- messages
+
+# What stands behind two good records; the line that is wrong, and what is said of it.
+BAD = [
+    ("kind=03\na=76\nb=2\nc=0\n", "line 9 is 'kind=03', and kind=NUMBER is wanted" + NUMBER),
+    ("kind=3\na=-0\nb=2\nc=0\n", "line 10 is 'a=-0', and a=NUMBER is wanted" + NUMBER),
+    ("kind=3\na=76\nb=+2\nc=0\n", "line 11 is 'b=+2', and b=NUMBER is wanted" + NUMBER),
+    ("kind=3\na=76\nb=2\nc= 0\n", "line 12 is 'c= 0', and c=NUMBER is wanted" + NUMBER),
+    ("kind=-100000\na=76\nb=2\nc=0\n", "line 9 is 'kind=-100000', and kind=NUMBER is wanted" + NUMBER),
+    ("kind=3\na=7 6\nb=2\nc=0\n", "line 10 is 'a=7 6', and a=NUMBER is wanted" + NUMBER),
+    ("kind=3\na=\nb=2\nc=0\n", "line 10 is 'a=', and a=NUMBER is wanted" + NUMBER),
+    ("kind=3\na=-\nb=2\nc=0\n", "line 10 is 'a=-', and a=NUMBER is wanted" + NUMBER),
+    ("kind=3\nb=2\na=76\nc=0\n", "line 10 is 'b=2', and a=NUMBER is wanted"),
+    ("kind=3\na=76\n" + START, "line 11 is 'kind=6', and b=NUMBER is wanted"),
+    ("\n" + START, "line 9 is '', and kind=NUMBER is wanted"),
+    ("status\n", "line 9 is 'status', and kind=NUMBER is wanted"),
+    ("kind=3\r\na=76\r\nb=2\r\nc=0\r\n", "line 9 ends with byte 13 (carriage return), and byte 10 alone must end a line"),
+    ("kind=3\na=76\r\nb=2\nc=0\n", "line 10 ends with byte 13 (carriage return), and byte 10 alone must end a line"),
+    ("kind=03\r\n", r"line 9 is 'kind=03\x0d', and kind=NUMBER is wanted" + NUMBER),
+    ("\x1b[31m\0it's\\\xff\n", r"line 9 is '\x1b[31m\x00it\x27s\x5c\xff', and kind=NUMBER is wanted"),
+    ("x" * 300000 + "\n", f"line 9 is '{'x' * 40}'.., and kind=NUMBER is wanted"),
+    ("kind=" + "1" * 300000, f"line 9, the last, is 'kind={'1' * 35}'.., and kind=NUMBER is wanted" + NUMBER),
+    ("kind=3\n", "the trace ends where line 10, a=NUMBER, is wanted"),
+    ("kind=3\na=76\nb=2\n", "the trace ends where line 12, c=NUMBER, is wanted"),
+    ("kind=3\na=76\nb=2\nc=0", "line 12, the last, is 'c=0', and no byte 10 ends it"),
+    ("kind=3\na=7", "line 10, the last, is 'a=7', and no byte 10 ends it"),
+    ("ki", "line 9, the last, is 'ki', and kind=NUMBER is wanted"),
+]
+
+
+def malformed(room):
+    trace, out = room / "bad.trace", room / "x.answers"
+    place = "9: no record begins here (record 3, behind 38 bytes): "
+    wrong = []
+    for text, what in BAD:
+        data = (START * 2 + text).encode("latin-1")
+        trace.write_bytes(data)
+        wrong += differs(run("answer.sh", trace, "-o", out), (1, "", f"{trace}:{place}{what}\n"))
+        if [one.name for one in room.iterdir()] != ["bad.trace"]:
+            wrong.append(f"it leaves {list(room.iterdir())}")
+    check(f"{len(BAD)} malformed records are refused by their place, and no file appears", wrong)
+    check("nothing before it reaches standard output", differs(run("answer.sh", given=data), (1, "", f"standard input:{place}{BAD[-1][1]}\n")))
+    out.write_text("as it was")
+    code, _, _ = run("answer.sh", trace, "-o", out)
+    check("an older file stays as it was", differs((code, sorted(one.name for one in room.iterdir()), out.read_text()), (1, ["bad.trace", "x.answers"], "as it was")))
+
+
+def too_much(room):
+    trace, out = room / "big.trace", room / "x.answers"
+    # 430184 of the longest record and two of 20 bytes are 16 MiB; each is refused with code 1.
+    trace.write_text(record(-99999, -99999, -99999, -99999) * 430184 + record(10, 0, 0, 0) * 2)
+    done = run("answer.sh", trace)
+    check("a trace of 16 MiB is answered", differs((trace.stat().st_size, done[0], done[1] == answer(1, 0, 1, 1) * 430186, done[2]), (MOST, 0, True, "")))
+    out.write_text("as it was")
+    with trace.open("a") as file:
+        file.write("\n")
+    said = "too long, a trace has at most 16777216 bytes (16 MiB)\n"
+    done = run("answer.sh", trace, "-o", out), run("answer.sh", given=trace.read_bytes()), held(room)["x.answers"]
+    check("one byte more is refused", differs(done, ((1, "", f"{trace}: {said}"), (1, "", f"standard input: {said}"), "as it was")))
+    endless = subprocess.Popen(["yes"], stdout=subprocess.PIPE)
+    done = subprocess.run([TOOLS / "answer.sh"], stdin=endless.stdout, capture_output=True, timeout=60)
+    endless.stdout.close()
+    endless.wait()
+    check("and so is an input without end", differs((done.returncode, done.stdout, done.stderr.decode()), (1, b"", f"standard input: {said}")))
+    # 541200 answers of 31 bytes leave 16 bytes of 16 MiB.
+    trace.write_text(START * 541200)
+    done = run("answer.sh", trace)
+    check("answers of nearly 16 MiB", differs((done[0], done[1] == answer(0, 0, 1, 1) + answer(4, 0, 1, 1) * 541199, done[2]), (0, True, "")))
+    trace.write_text(START * 541202)
+    said = "no room for the answer to this record (record 541201, behind 10282800 bytes): the answers together have at most 16777216 bytes (16 MiB)"
+    done = run("answer.sh", trace, "-o", out)
+    check("one answer more is refused by its place", differs((done, sorted(one.name for one in room.iterdir()), out.read_text()),
+                                                             ((1, "", f"{trace}:2164801: {said}\n"), ["big.trace", "x.answers"], "as it was")))
+
+
+def files(room):
+    trace, loop, out = room / "k.trace", room / "loop", room / "x.answers"
+    shutil.copy(TRACES / "k11.trace", trace)
+    loop.symlink_to("loop")
+    out.write_text("as it was")
+    before = held(room)
+    shut = room / "shut"
+    shut.mkdir()
+    shut.chmod(0)
+    denied = [] if os.geteuid() == 0 else [    # root may do all
+        ([shut / "x"], 1, f"{shut}/x: Permission denied"),
+        ([trace, "-o", shut / "x"], 1, f"{shut}/x: Permission denied"),
+    ]
+    for words, code, said in [
+        ([room / "none"], 1, f"{room}/none: No such file or directory"),
+        ([room], 1, f"{room}: Is a directory"),
+        ([""], 1, ": No such file or directory"),
+        ([loop], 1, f"{loop}: Too many levels of symbolic links"),
+        (["/proc/self/mem"], 1, "/proc/self/mem: Input/output error"),
+        *denied,
+        ([trace, "-o", room / "none" / "x"], 1, f"{room}/none/x: No such file or directory"),
+        ([trace, "-o", room], 1, f"{room}: not a plain file"),
+        ([trace, "-o", "/dev/full"], 1, "/dev/full: not a plain file"),
+        ([trace, "-o", trace / "x"], 1, f"{trace}/x: Not a directory"),
+        ([trace, "-o", room / ("x" * 256)], 1, f"{room}/{'x' * 256}: File name too long"),
+        ([trace, "-o", ""], 1, ": No such file or directory"),
+        ([trace, "-o", trace], 1, f"{trace}: this is the trace itself"),
+        ([trace, out], 2, "tools/answer.sh: one trace wanted, 2 found"),
+        ([trace, "-o"], 2, "tools/answer.sh: option requires an argument -- 'o'"),
+        ([trace, "--address"], 2, "tools/answer.sh: option '--address' requires an argument"),
+        ([trace, "--address", "78"], 2, "tools/answer.sh: --address is 76 or 77"),
+        ([trace, "--address", "076"], 2, "tools/answer.sh: --address is 76 or 77"),
+        ([trace, "--frob"], 2, "tools/answer.sh: unrecognized option '--frob'"),
+    ]:
+        done = run("answer.sh", *words, cwd=room)
+        check(f"refused: {said.replace(str(room), '..')[:80]}", differs((done, held(room)), ((code, "", said + "\n"), before)))
+
+
+def devices(room):
+    trace, out = room / "long.trace", room / "x.answers"
+    trace.write_text(START * 20000)
+    with open("/dev/full", "w") as full:
+        done = subprocess.run([TOOLS / "answer.sh", trace], stdout=full, stderr=subprocess.PIPE, text=True)
+    check("a full device", differs((done.returncode, done.stderr), (1, "standard output: No space left on device\n")))
+    out.write_text("as it was")
+    limit = 100 * 1024    # of the answers' 600 KB
+    done = run("answer.sh", trace, "-o", out, preexec_fn=lambda: resource.setrlimit(resource.RLIMIT_FSIZE, (limit, limit)))
+    check("a file that may not grow so far, and no part of it is left", differs((done, sorted(one.name for one in room.iterdir()), out.read_text()),
+                                                                                 ((1, "", f"{out}: File too large\n"), ["long.trace", "x.answers"], "as it was")))
+    with (room / "wrote").open("w") as file:
+        done = subprocess.run([TOOLS / "answer.sh", trace], stdout=file, stderr=subprocess.PIPE, text=True,
+                              preexec_fn=lambda: resource.setrlimit(resource.RLIMIT_FSIZE, (limit, limit)))
+    check("nor may standard output", differs((done.returncode, done.stderr), (1, "standard output: File too large\n")))
+    ours, theirs = os.pipe()
+    os.close(ours)
+    done = subprocess.run([TOOLS / "answer.sh", trace], stdout=theirs, stderr=subprocess.PIPE, text=True)
+    os.close(theirs)
+    check("a reader that is gone", differs((done.returncode, done.stderr), (1, "")))
+    for number, named in (0, "input"), (1, "output"):
+        done = run("answer.sh", *[trace] * number, preexec_fn=lambda: os.close(number))
+        check(f"standard {named} is closed", differs(done, (1, "", f"standard {named}: Bad file descriptor\n")))
+
+
+# ---- what a terminal is told
+
+
+def at_terminal(words, slowed=False, **more):
+    """Runs a command whose standard error is a terminal, and gives exit code, standard output and what the terminal saw. Slowed, it is stopped
+    for most of the time, as on a machine that is some twenty times slower: the library needs less than half a second for any trace.
+    """
+    ours, theirs = pty.openpty()
+    os.set_blocking(ours, False)
+    said = b""
+    with tempfile.TemporaryFile() as wrote:
+        program = subprocess.Popen(words, stdout=wrote, **{"stdin": subprocess.DEVNULL, "stderr": theirs} | more)
+        os.close(theirs)
+        over = False
+        while not over:
+            over = program.poll() is not None
+            if slowed and not over:
+                program.send_signal(signal.SIGSTOP)
+                time.sleep(0.02)
+                program.send_signal(signal.SIGCONT)
+            time.sleep(0.001)
+            try:
+                while part := os.read(ours, 65536):
+                    said += part
+            except OSError:    # nothing now, or no more
+                pass
+        os.close(ours)
+        wrote.seek(0)
+        return program.returncode, wrote.read().decode(), said.decode()
+
+
+def progress(room):
+    trace = room / "long.trace"
+    # A conversion over the limit, and a status read: 61 bytes, 94 of answers.
+    trace.write_text((START + record(7, 20, 341, 0) + record(3, 76, 2, 0)) * 170000)
+    code, out, said = at_terminal([TOOLS / "answer.sh", trace], slowed=True)
+    last = answer(0, 0, 0, 0) * 2 + answer(0, 18, 0, 0)
+    check("a trace of 10 MB on a slow machine", differs((code, out == answer(0, 0, 1, 1) + answer(0, 0, 0, 0) + answer(0, 18, 0, 0) + last * 169999), (0, True)))
+    shown = re.fullmatch(r"((?:\r[ \d]{3} % of the trace is answered)+)\r\x1b\[K", said)
+    numbers = [int(number) for number in re.findall(r"(\d+) %", said)]
+    check("a terminal is told how far it is, and the line is wiped", [] if shown and numbers == sorted(numbers) and len(set(numbers)) > 2 and numbers[-1] <= 100
+          else [repr(said)])
+    short = room / "short.trace"
+    short.write_text(START * 25000)
+    code, out, said = at_terminal([TOOLS / "answer.sh", short])
+    check("nothing of a trace that is answered at once", differs((code, out.count("code="), said), (0, 25000, "")))
+    short.write_text(START * 150000)
+    with (room / "said").open("w") as file:
+        code, out, _ = at_terminal([TOOLS / "answer.sh", short], slowed=True, stderr=file)
+    check("nor is anything told where there is no terminal", differs((code, out.count("code="), (room / "said").read_text()), (0, 150000, "")))
+    with trace.open("a") as file:
+        file.write("kind=3\n")
+    code, out, said = at_terminal([TOOLS / "answer.sh", trace])
+    message = f"{trace}:2040001: no record begins here (record 510001, behind 10370000 bytes): the trace ends where line 2040002, a=NUMBER, is wanted\r\n"
+    check("a message stands on a line of its own", [] if (code, out) == (1, "") and re.sub(r"\r[^\r]*answered|\r\x1b\[K", "", said) == message else [repr(said)])
+
+
+def built_first(room):
+    """With a stand-in for rt, which makes what it is asked for at once."""
+    for name in "bin", "tools", "crates":
+        (room / name).mkdir()
+    (room / "crates.txt").touch()
+    for name in "x86.sh", "need.sh", "replay.sh":
+        shutil.copy(TOOLS / name, room / "tools")
+    kit = room / "kit" / "on" / os.uname().machine / "toolchain" / "lib"
+    kit.mkdir(parents=True)
+    for path, text in (room / "bin" / "rt", 'case $1 in doc) echo "$ROOM/kit/doc/x"; exit ;; staticlib) file=staticlib/libreplay.a ;; check) file=bin/console ;; esac\n'
+                       'mkdir -p "target/${file%/*}"\ntouch "target/$file"\n'), (kit / "ld-linux-x86-64.so.2", "cat\n"):
+        path.write_text("#!/bin/sh\n" + text)
+        path.chmod(0o755)
+    more = {"cwd": room, "env": os.environ | {"PATH": f"{room / 'bin'}:{os.environ['PATH']}", "ROOM": str(room)}}
+    for what, made, words in [("library", "staticlib/libreplay.a", ["bash", "-c", "set -euo pipefail; . tools/x86.sh"]),
+                              ("small program", "bin/console", [room / "tools" / "replay.sh"])]:
+        line = f"proving and building the {what}: some three minutes at the first run\r\n"
+        have = at_terminal(words, **more), at_terminal(words, **more)
+        check(f"the {what} is built first: a terminal is told so, and told once", differs(have, ((0, "", line), (0, "", ""))))
+        (room / "target" / made).unlink()
+        done = subprocess.run(words, capture_output=True, stdin=subprocess.DEVNULL, **more)
+        check(f"the {what} is built first: a pipe is not told", differs((done.returncode, done.stdout, done.stderr), (0, b"", b"")))
+
+
+# ---- records and answers in one go
+
+# The standby case of document 01 (K12), worked out by hand: remote 200 quarters is over 4 * 40.
+STANDBY = """\
+1  start -> done; ALERT high, THERM high
+2  end local 20, remote 50.00 (200 quarters) -> done; ALERT high, THERM high
+3  write configuration (09) 64 = 0x40: standby -> done; ALERT high, THERM high
+4  write remote-high-limit (0d) 40 = 0x28 -> done; ALERT low, THERM high
+5  read status (02) -> 16 = 0x10: remote high; ALERT low, THERM high
+"""
+STANDBY_TRACE = START + record(7, 20, 200, 0) + record(2, 76, 9, 64) + record(2, 76, 13, 40) + record(3, 76, 2, 0)
+RESPONSE = """\
+1  receive at 77 [local-value (00)] -> 0 = 0x00; ALERT high, THERM high
+2  start -> done; ALERT high, THERM high
+3  end local 20, remote 0.00 (0 quarters) -> done; ALERT low, THERM high
+4  respond -> 155 = 0x9b: address 77; ALERT low, THERM high
+"""
+
+
+def shown(room):
+    done = run("show.py", "examples/standby.txt", cwd=ROOT)
+    check("the standby case in notation", differs(done, (0, STANDBY, "")))
+    file = room / "the records"
+    file.write_text(STANDBY_TRACE)
+    check("the standby case in records", differs(run("show.py", "the records", cwd=room), (0, STANDBY, "")))
+    check("records on standard input", differs(run("show.py", "-", given=STANDBY_TRACE.encode()), (0, STANDBY, "")))
+    text = "receive\nconvert 20 0\nrespond"
+    check("notation on standard input, for the other chip", differs(run("show.py", "--address", "77", "-", given=text.encode()), (0, RESPONSE, "")))
+    text = record(4, 77, 0, 0) + START + record(7, 20, 0, 0) + record(5, 0, 0, 0)
+    check("records for the other chip", differs(run("show.py", "-", "--address", "77", given=text.encode()), (0, RESPONSE, "")))
+    text = "address 77\nreceive"
+    want = "1  receive at 77 -> refused, code 3: not acknowledged; ALERT high, THERM high\n"
+    check("a notation's own address is the bus address alone", differs(run("show.py", "-", given=text.encode()), (0, want, "")))
+    check("nothing to show", differs((run("show.py", "-"), run("show.py", "-", given=b"# nothing\n")), ((0, "", ""), (0, "", ""))))
+    for text, said in [
+        ("start\nfrobnicate\nread 256\n", "{0}:2: frobnicate: no such word\n{0}:3: 256: command is 0 to 255, only 'raw' goes beyond\n"),
+        ("\x1b[31m\n", "{0}:1: ?[31m: no such word\n"),
+        (START + "kind=03\n", "{0}:5: kind=NUMBER wanted, 'kind=03' found\n"),
+        (START + "kind=3\na=76\n", "{0}:6: cut short: b=NUMBER wanted behind this line\n"),
+        (START + "kind=3", "{0}:5: the last line has no end\n"),
+        ("kind=6\r\na=0\r\n", "{0}:1: kind=NUMBER wanted, 'kind=6\\r' found, a line that ends with byte 13 (carriage return) before byte 10\n"),
+        ("kind=6\n" + "x" * MOST, "{0}: 16777223 bytes of records, at most 16777216 (16 MiB) are replayed\n"),
+    ]:
+        file.write_text(text, newline="")
+        want = said.format(file)
+        check(f"refused: {want.replace(str(room), '..')[:80]!r}", differs(run("show.py", file), (1, "", want)))
+    none = room / "none"
+    check("a missing file and a folder", differs((run("show.py", none), run("show.py", room)),
+                                                 ((1, "", f"{none}: No such file or directory\n"), (1, "", f"{room}: Is a directory\n"))))
+    file.write_text(STANDBY_TRACE)
+    with open("/dev/full", "w") as full:
+        done = subprocess.run([TOOLS / "show.py", file], stdout=full, stderr=subprocess.PIPE, text=True)
+    check("a full device", differs((done.returncode, done.stderr), (1, "standard output: No space left on device\n")))
+    check("no other address", differs((run("show.py", file, "--address", "78")[:2]), (2, "")))
+    for name in "show.py", "explain.py", "trace.py", "table.py", "names.txt":
+        shutil.copy(TOOLS / name, room)
+    (room / "answer.sh").write_text("#!/bin/sh\necho a message >&2\nexit 5\n")
+    (room / "answer.sh").chmod(0o755)
+    done = subprocess.run([room / "show.py", file], input=b"", capture_output=True)
+    want = f"a message\n{file}: its records on the standard input of tools/answer.sh, which ended with code 5\n"
+    check("no answers", differs((done.returncode, done.stdout, done.stderr.decode()), (1, b"", want)))
+
+
+def helps(room):
+    names = ["answer.sh", "cases.py", "cases.sh", "explain.py", "replay.sh", "show.py", "trace.py", "wave.py"]
+    wrong = []
+    for name in names:
+        code, out, said = run(name, "--help", cwd=room)
+        if code or said or name not in out:
+            wrong.append(f"{name}: {code} {out!r} {said!r}")
+    check(f"{len(names)} tools say how they are called", wrong)
+    code, out, said = run("replay.sh", TRACES / "k11.trace")
+    check("the small program takes no file", differs((code, out, said.startswith("usage: tools/replay.sh < TRACE ")), (2, "", True)))
+
+
+def main():
+    for part in recorded, streams, malformed, too_much, files, devices, progress, built_first, shown, helps:
+        with tempfile.TemporaryDirectory() as room:
+            try:
+                part(Path(room))
+            except Exception as error:    # the other parts still tell what they find
+                check(f"'{part.__name__}' ends", [repr(error)])
+    end()
+
+
+main()
