@@ -101,10 +101,9 @@ def recorded(room):
 
 def notation(room, text, *words):
     """The VCD's times of a notation."""
-    source, trace = room / "one.txt", room / "one.trace"
+    source = room / "one.txt"
     source.write_text(text)
-    subprocess.run([sys.executable, ROOT / "tools" / "trace.py", source, "-o", trace, *words], check=True)
-    code, _, said = run(trace, *words)
+    code, _, said = run(source, *words)
     if code not in (0, 3):
         raise RuntimeError(said)
     return parsed(room / "one.vcd")[1]
@@ -135,6 +134,7 @@ BAD = [
     (RECORD + "kind=03\na=76\nb=2\nc=0\n", ":5: kind=NUMBER wanted, 'kind=03' found"),
     (RECORD + "kind=3\na=76\n", ":6: cut short: b=NUMBER wanted behind this line"),
     (RECORD + "kind=3", ":5: the last line has no end"),
+    ("start\nconvert 20 85.3\n", ":2: 85.3: no whole number of quarters"),
     (RECORD * 2001, ": 2001 records, at most 2000 are taken: each event replays all before it"),
 ]
 

@@ -1,5 +1,6 @@
 #!/usr/bin/env python3
-"""Turns a trace into waves: NAME.vcd, which GTKWave opens, and NAME.png, a picture of the run. Time is the number of the event.
+"""Turns a trace, as records or in the short notation, into waves: NAME.vcd, which GTKWave opens, and NAME.png, a picture of the run. Time is
+the number of the event.
 
 All that is shown comes from the C library, asked after each event (tools/probe.c). Degrees are the registers read in the range that the
 configuration has at that event: a value stored before a change of range is so read off by 64 until the next conversion, as a driver reads it
@@ -15,6 +16,7 @@ from collections import namedtuple
 from pathlib import Path
 
 import explain
+import show
 from table import USUAL_ADDRESS
 from trace import put
 
@@ -275,7 +277,7 @@ def save(path, data, trace):
 
 def waves(trace, address, name):
     with open(trace, "rb") as file:
-        data = file.read()
+        data = show.trace_of(file.read(), address, trace)
     records = explain.records_of(data)
     if len(records) > MOST:
         raise Failed(f"{trace}: {len(records)} records, at most {MOST} are taken: each event replays all before it")
@@ -293,17 +295,17 @@ def waves(trace, address, name):
 
 def main():
     parser = argparse.ArgumentParser(description=__doc__, formatter_class=argparse.RawDescriptionHelpFormatter)
-    parser.add_argument("trace", help=f"the records, at most {MOST}")
+    parser.add_argument("trace", help=f"at most {MOST} records; tools/trace.py --help has the notation")
     parser.add_argument("--address", type=int, choices=[76, 77], default=USUAL_ADDRESS, help=f"the chip's bus address, {USUAL_ADDRESS} where none is given")
-    parser.add_argument("-o", metavar="NAME", dest="name", help="NAME.vcd and NAME.png are written; where none is given, the trace's path without .trace")
+    parser.add_argument("-o", metavar="NAME", dest="name", help="NAME.vcd and NAME.png are written; where none is given, the trace's path without its ending")
     given = parser.parse_args()
     try:
-        return waves(given.trace, given.address, given.name or given.trace.removesuffix(".trace"))
+        return waves(given.trace, given.address, given.name or given.trace.removesuffix(".trace").removesuffix(".txt"))
     except explain.Bad as bad:
         said = f"{given.trace}:{bad.place}: {bad}"
     except OSError as error:
         said = f"{error.filename or given.trace}: {error.strerror or error}"
-    except Failed as failed:
+    except (Failed, show.Failed) as failed:
         said = str(failed)
     except KeyboardInterrupt:
         return 130
