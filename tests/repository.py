@@ -114,6 +114,10 @@ def functions(crate, module):
     return {name for p in paths if p.exists() for name in re.findall(r"^(?:#\[\w+\] )?(?:pub )?(?:extern \"C\" )?fn (\w+)", p.read_text(), re.M)}
 
 
+# An edit, as CRATE/NAME: wherever CRATE is a folder under crates, and so each of several in a cell.
+EDIT = re.compile(rf"(?<![\w/.`])({'|'.join(sorted(path.name for path in (ROOT / 'crates').iterdir()))})/(\w+)\b(?![/.`])")
+
+
 def missing(text):
     """The names in a document that stand for nothing."""
     found = []
@@ -129,17 +133,74 @@ def missing(text):
                 found.append(f"{name}: no such function")
         elif re.fullmatch(r"(?:crates|docs|tests|tools)/\S+", name) and not (ROOT / name).exists():
             found.append(f"{name}: no such file")
-    for crate, edit in re.findall(r"(?:\| |edit )(\w+)/(\w+)(?= \||:)", text):
-        if not (ROOT / "crates" / crate / "must-fail" / f"{edit}.edit").exists():
+    for crate, edit in re.findall(r"(?:\| |edit )(\w+)/(\w+)(?= \||:)", text) + EDIT.findall(text):
+        if not is_edit(f"{crate}/{edit}") and f"{crate}/{edit}: no such edit" not in found:
             found.append(f"{crate}/{edit}: no such edit")
     return found
 
 
+def is_edit(name):
+    m = re.fullmatch(r"(\w+)/(\w+)", name)
+    return bool(m) and (ROOT / "crates" / m[1] / "must-fail" / f"{m[2]}.edit").exists()
+
+
 def documents():
-    wrong = "`Step.noSuch` `NoSuch.antt` `chip::noSuch` `crates/none` `docs/none` | rules/no_such |"
-    check("a name that stands for nothing is found", [] if len(missing(wrong)) == 6 else missing(wrong) or ["it is not"])
+    wrong = "`Step.noSuch` `NoSuch.antt` `chip::noSuch` `crates/none` `docs/none` | rules/no_such | rules/address_128, chip/no_such, text/no_such | none/no_such |"
+    check("a name that stands for nothing is found", [] if len(missing(wrong)) == 9 else missing(wrong) or ["it is not"])
     for path in [ROOT / "README.md", *sorted(ROOT.glob("docs/**/*.md"))]:
         check(f"{path.relative_to(ROOT)}: the names in it exist", missing(path.read_text()))
+
+
+# ---- what carries each sentence of document 01
+
+# The sections of docs/RULES.md whose rows have four cells.
+SECTIONS = [
+    "What the model covers", "Events", "Answer codes", "Registers", "Values", "Comparisons", "Status, ALERT, THERM", "Traces and their replay",
+    "How strict the promises are",
+]
+HEAD = ["| Words | Definition | Contract | Refused edits |", "|---|---|---|---|"]
+
+
+def unfilled(rules):
+    """The rows that do not give a definition, a contract and edits, each one or a dash; and the sections that have no such table."""
+    found = []
+    for name in SECTIONS:
+        section = re.search(rf"^## {re.escape(name)}\n(.*?)(?=^## |\Z)", rules, re.M | re.S)
+        lines = [line for line in section[1].splitlines() if line.startswith("|")] if section else []
+        if lines[:2] != HEAD or len(lines) == 2:
+            found.append(f"{name}: no table of four columns")
+        for line in lines[2:]:
+            cells = [cell.strip() for cell in line.strip("|").split("|")]
+            if len(cells) != 4 or not all(cells):
+                found.append(f"{name}: {line[:80]}: not four cells")
+            elif cells[2] != "-" and "::" not in cells[2]:
+                found.append(f"{name}: {cells[2]}: not a dash, nor a function")
+            elif cells[3] != "-" and not all(map(is_edit, cells[3].split(", "))):
+                found.append(f"{name}: {cells[3]}: not a dash, nor edits")
+    return found
+
+
+def unnamed(edits, rules, alarms):
+    """The edits of the rules that stand neither in docs/RULES.md nor in docs/ALARMS.md."""
+    return [name for name in edits if not re.search(rf"\brules/{name}\b", rules) and not re.search(rf"\b{name}\b", alarms)]
+
+
+def sentences():
+    table = "\n".join(HEAD)
+    row = "| w | `d` | `m::f` | rules/address_128, events/address_128 |"
+    good = "".join(f"## {name}\n\n{table}\n{row}\n\n" for name in SECTIONS)
+    check("a table of four filled cells is accepted", unfilled(good))
+    for name, wrong in [
+        ("three cells", "| w | `d` | - |"), ("an empty cell", "| w | `d` |  | - |"), ("no function", "| w | `d` | `d` | - |"), ("no edits", "| w | `d` | - | `d` |"),
+        ("an edit that is not there, the second of two", "| w | `d` | - | rules/address_128, none/no_such |"),
+    ]:
+        check(f"{name} in a sentence's row: found", [] if len(unfilled(good.replace(row, wrong, 1))) == 1 else ["it is not"])
+    check("a table of two columns is found", [] if unfilled(good.replace(table, "| w | d |\n|---|---|", 1)) else ["it is not"])
+    check("an edit named nowhere is found", [] if unnamed(["a", "b", "c"], "rules/a", "b") == ["c"] else ["it is not"])
+    rules, alarms = [(ROOT / "docs" / name).read_text() for name in ("RULES.md", "ALARMS.md")]
+    check("every sentence's row in docs/RULES.md has a definition, a contract and edits, or a dash", unfilled(rules))
+    edits = sorted(path.stem for path in ROOT.glob("crates/rules/must-fail/*.edit"))
+    check(f"{len(edits)} edits of the rules each stand beside a sentence or in docs/ALARMS.md", unnamed(edits, rules, alarms))
 
 
 # ---- must-fail edits
@@ -230,6 +291,7 @@ def cases():
 def main():
     contracts()
     documents()
+    sentences()
     edits()
     trust()
     cases()

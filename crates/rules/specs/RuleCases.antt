@@ -114,6 +114,7 @@ ruleRows =
     row (answered (highTherm ∷ hot (reset ∷ []))) (0 ∷ 0 ∷ 1 ∷ 1 ∷ []) ∷
     row (answered (write 0x0d 1 ∷ reset ∷ read 0x07 ∷ [])) (0 ∷ 0x55 ∷ 1 ∷ 1 ∷ []) ∷
     row (answered (highTherm ∷ hot (reset ∷ start ∷ status ∷ []))) (0 ∷ 128 ∷ 1 ∷ 1 ∷ []) ∷
+    row (answered (send 0x05 ∷ reset ∷ receive ∷ [])) (0 ∷ 0 ∷ 1 ∷ 1 ∷ []) ∷
     -- codes 1 to 5, in their order
     row (answered (four 8 (pos 1) (pos 0) (pos 0) ∷ [])) (1 ∷ 0 ∷ 1 ∷ 1 ∷ []) ∷
     row (answered (four 0 (pos 1) (pos 0) (pos 0) ∷ [])) (2 ∷ 0 ∷ 1 ∷ 1 ∷ []) ∷
