@@ -8,7 +8,7 @@ UNFIT = ["has no `Need-", "is not in scope", "has no field", "Parse", "no such m
 def errors_of(log):
     """The log's errors, each on a line of its own, the first first."""
     errors = [line for line in log.replace("\n  ", " ").splitlines() if ": error" in line or line.startswith("note: ")]
-    return [line for line in errors if "was not admitted" not in line]
+    return [line for line in errors if "was not admitted" not in line and "no function with a body is declared" not in line]
 
 
 def unfit(log, at=()):
