@@ -8,7 +8,7 @@ import subprocess
 import sys
 from pathlib import Path
 
-from checks import check, end
+from checks import check, differs, end
 from refusals import unfit
 
 ROOT = Path(__file__).resolve().parent.parent
@@ -151,6 +151,28 @@ def documents():
         check(f"{path.relative_to(ROOT)}: the names in it exist", missing(path.read_text()))
 
 
+# ---- the tools' table
+
+
+def commands(rules, names):
+    """The commands that the rules' tables and tools/names.txt do not both have."""
+    found = []
+    for sort in ("read", "write"):
+        table = re.search(rf"^{sort}Table =\n(.*?)\[\]", rules, re.M | re.S)
+        have = {int(number, 16) for number in re.findall(r"\((0x\w+), ", table[1])}
+        named = {int(number, 16) for number in re.findall(rf"^register {sort} (0x\w+) ", names, re.M)}
+        found += [f"{sort} {number:02x}: {'no name' if number in have else 'no register'}" for number in sorted(have ^ named)]
+    return found
+
+
+def names():
+    rules = (ROOT / "crates" / "rules" / "specs" / "Commands.antt").read_text()
+    table = (ROOT / "tools" / "names.txt").read_text()
+    check("each register that a command names has its name in the tools' table", commands(rules, table))
+    wrong = commands(rules, table.replace("register read 0x00", "register read 0x09"))
+    check("a register without a name and a name without a register are found", differs(wrong, ["read 00: no name", "read 09: no register"]))
+
+
 # ---- what carries each sentence of document 01
 
 # The sections of docs/RULES.md whose rows have four cells.
@@ -291,6 +313,7 @@ def cases():
 def main():
     contracts()
     documents()
+    names()
     sentences()
     edits()
     trust()
