@@ -11,9 +11,11 @@ enum { RESET, SEND, WRITE, READ, RECEIVE, RESPOND, START, END };    /* the kinds
 
 #define PICK(list, number) ((list)[(number) % (sizeof(list) / sizeof *(list))])
 
-/* The states that a trace of events went through: flags, latch and standby together, run count and register 22 together. */
+enum { LONGEST = 33 };      /* bytes of an answer */
+
+/* What a replay went through: by flags, latch and standby; by run count and register 22; by the room left for an answer that did not fit. */
 typedef struct {
-    uint8_t flags[256][2][2], runs[5][8];
+    uint8_t flags[256][2][2], runs[5][8], left[LONGEST];
 } states;
 
 /* The fuzzer takes a byte of this section that is not 0 for code reached, so it also looks for inputs that reach a new state. */
@@ -41,12 +43,12 @@ static int32_t within(int32_t value, int32_t least, int32_t most)
 /* Mostly a command with a meaning; else any. */
 static int32_t command(int32_t kind, uint8_t x, uint8_t z)
 {
-    static const uint8_t written[] = {0x09, 0x0A, 0x0B, 0x0C, 0x0D, 0x0E, 0x0F, 0x11, 0x12, 0x13, 0x14, 0x19, 0x20, 0x21, 0x22};
-    static const uint8_t read[] = {0x02, 0x00, 0x01, 0x02, 0x03, 0x04, 0x05, 0x06, 0x07, 0x08, 0x10, 0x11, 0x12, 0x13, 0x14,
-                                   0x19, 0x20, 0x21, 0x22, 0xFE, 0xFF};
+    static const uint8_t writable[] = {0x09, 0x0A, 0x0B, 0x0C, 0x0D, 0x0E, 0x0F, 0x11, 0x12, 0x13, 0x14, 0x19, 0x20, 0x21, 0x22};
+    static const uint8_t readable[] = {0x02, 0x00, 0x01, 0x02, 0x03, 0x04, 0x05, 0x06, 0x07, 0x08, 0x10, 0x11, 0x12, 0x13, 0x14,
+                                       0x19, 0x20, 0x21, 0x22, 0xFE, 0xFF};
     if (x >= AS_IT_IS)
         return 4 * (x - AS_IT_IS) + z % 4;
-    return kind == WRITE ? PICK(written, x) : PICK(read, x);
+    return kind == WRITE ? PICK(writable, x) : PICK(readable, x);
 }
 
 /* A byte to write that lies one below, at or one above what the register is compared with. */
@@ -100,7 +102,7 @@ static void add_event(trace *t, second_chip *chip, const uint8_t event[INPUT_EVE
     static const int32_t ends[] = {-1, 1, 2, 7, 8, 75, 78, 127, 128, 255, 256, 8191, 8192, 32767, 32768, 99999,
                                    -8192, -8193, -32768, -32769, -99999};
     const uint8_t way = event[0] >> 3, x = event[1], y = event[2], z = event[3];
-    int32_t f[4] = {event[0] & 7, 0, 0, 0};
+    int32_t f[4] = {event[0] & 7, 0, 0, 0};     /* kind, a, b, c */
     if (f[0] >= SEND && f[0] <= RECEIVE)
         f[1] = way == OTHER_ADDRESS ? z & 127 : chip->address;
     if (f[0] >= SEND && f[0] <= READ)
@@ -135,6 +137,11 @@ static states add_events(trace *t, int32_t address, const uint8_t *bytes, size_t
 
 /* ---- the head ---- */
 
+static size_t written(const uint8_t report[SECOND_REPORT_BYTES])
+{
+    return report[12] + 256U * report[13] + 65536U * report[14];
+}
+
 /* How long the answers are if there is room for all: an answer has at most 33 bytes, a record at least 19. */
 static size_t answers_length(const trace *t, int32_t address)
 {
@@ -142,7 +149,7 @@ static size_t answers_length(const trace *t, int32_t address)
     uint8_t report[SECOND_REPORT_BYTES] = {0}, *output = call_room(room);
     (void)second_replay(address, t->bytes, t->len, output, room, report, sizeof report);
     free(output);
-    return report[12] + 256U * report[13] + 65536U * report[14];
+    return written(report);
 }
 
 static size_t room_of(const uint8_t *head, size_t exact)
@@ -184,6 +191,8 @@ void input_try(pipes *model, const uint8_t *bytes, size_t len)
     call_result both = compare_both(model, &in);
     if (both.code == SECOND_DONE || both.code == SECOND_MALFORMED)      /* no event was left out */
         reached = met;
+    if (both.code == SECOND_NO_ROOM)
+        reached.left[(in.output_len - written(both.report)) % LONGEST] = 1;
     call_result_free(&both);
     trace_free(&t);
 }

@@ -49,13 +49,14 @@ if $coverage; then
     llvm-cov report "$built/covered" -instr-profile="$built/profile" -show-region-summary=false "${compared[@]}"
     exit
 fi
-# Only the second model is watched: what the fuzzer's own code does is nothing to look for.
+# Only the second model is watched: what the fuzzer's own code does is nothing to look for. It is not optimised, so that each of its tests is
+# seen as a jump.
 objects=()
 compile() {
     objects+=("$built/$(basename "$1").o")
     clang "${flags[@]}" "${@:2}" -c "$1" -o "${objects[-1]}"
 }
-for file in "${compared[@]}"; do compile "$file" -fsanitize=fuzzer-no-link; done
+for file in "${compared[@]}"; do compile "$file" -O0 -fsanitize=fuzzer-no-link; done
 for file in "$at/fuzzer.c" "${others[@]}"; do compile "$file"; done
 clang "${sanitizers[@]}" -fsanitize=fuzzer -o "$built/fuzzer" "${objects[@]}"
 
