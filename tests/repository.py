@@ -137,7 +137,7 @@ def missing(text):
 def documents():
     wrong = "`Step.noSuch` `NoSuch.antt` `chip::noSuch` `crates/none` `docs/none` | rules/no_such |"
     check("a name that stands for nothing is found", [] if len(missing(wrong)) == 6 else missing(wrong) or ["it is not"])
-    for name in ["README.md", "docs/ALARMS.md", "docs/BENCHMARK.md", "docs/DECISIONS.md", "docs/PROMISES.md", "docs/PUBLIC.md", "docs/RULES.md"]:
+    for name in ["README.md", "docs/ALARMS.md", "docs/BENCHMARK.md", "docs/DECISIONS.md", "docs/FUZZING.md", "docs/PROMISES.md", "docs/PUBLIC.md", "docs/RULES.md"]:
         check(f"{name}: the names in it exist", missing((ROOT / name).read_text()))
 
 

@@ -18,7 +18,7 @@ others=("$at"/input.c tests/compare/{compare,alarms,call,pipes,trace}.c second/s
 minutes=0 keep=false coverage=false files=()
 while (($#)); do
     case $1 in
-    --minutes) minutes=${2:-}; shift ;;
+    --minutes) minutes=${2:?how many}; shift ;;
     --keep) keep=true ;;
     --coverage) coverage=true ;;
     *) files+=("$1") ;;
