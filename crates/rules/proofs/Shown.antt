@@ -1,13 +1,13 @@
 -- What follows from the history's claims for whoever reads the status and watches the line. Assumes nothing.
 use Prim.Native.Nat.{ℕ}
 use mathlib.Core.Path.{_≡_, refl, subst, sym, ap, _∙_}
-use mathlib.Core.Bool.{Bool, true, false, cond, _&&_, _||_, not, and-assoc}
+use mathlib.Core.Bool.{Bool, true, false, cond, _&&_, _||_, not, and-assoc, or-true}
 use mathlib.Core.List.{List, [], _∷_, map}
 use lib.Dec.{eqb}
 use native.Mathlib.Omega.{arith}
 use lib.IntN.{ℤ}
 use lib.IntN.ℤ.{pos, negsuc}
-use borrow.Author.Tests.{eq-eqb}
+use borrow.Author.Tests.{eq-eqb, eqb-true}
 use Rattle.rules.specs.declared.register.Channel.{Channel}
 use Rattle.rules.specs.declared.register.Channel.the-variants.{Local, Remote}
 use Rattle.rules.specs.declared.register.Register.{Register}
@@ -39,7 +39,7 @@ use Rattle.rules.specs.Status.{afterStatus, statusOf}
 use Rattle.rules.specs.Step.{answerOf, applyOf, checkedOf, done, endOf, onBus, refused, responded, respondOf, responseOf, silent, startOf, stepOf}
 use Rattle.rules.specs.Trial.{Four, lastFrom, respond}
 use Rattle.rules.specs.WellFormed.{wellFormed}
-use Rattle.rules.specs.Alarm.{AlertStaysLow, Deed, FaultsShown, Flag, Happened, History, LineShown, NoneInvented, ReadsShow, ResetBeginsAnew, ResponsesAnswered, Side, StandbyLimitAlerts, StandbyLimitShown, View, answerFor, beyond, checkedDeed, checkedReads, clearsLatchNow, comparesAt, everConverted as ever, deedIf, diodeFinding, finds, findsLimit, findsNow, flagAt, formOf, highCommand, historyFrom, historyOf, historyThen, inARow, isAnswered, isFault, isReset, isStatusEvent, isStatusRead, latched, limitFinding, lineFree, needs, withEvent, outcome, placeOf, readsStatus, running, setBy, sets, setsNow, stands, stateOf, stateThen, withStep, uncleared, unread, viewOf, writeDeed}
+use Rattle.rules.specs.Alarm.{AlertStaysLow, Deed, FaultsShown, Flag, Happened, History, LineShown, NoneInvented, ReadsShow, ResetBeginsAnew, ResponsesAnswered, Side, StandbyLimitAlerts, StandbyLimitShown, View, answerFor, beyond, checkedDeed, checkedReads, clearsLatchNow, comparesAt, everConverted as ever, deedIf, diodeFinding, finds, findsLimit, findsNow, flagAt, formOf, historyFrom, historyOf, historyThen, inARow, isAnswered, isFault, isReset, isStatusEvent, isStatusRead, latched, limitFinding, lineFree, needs, withEvent, outcome, placeOf, readsStatus, running, setBy, sets, setsNow, stands, stateOf, stateThen, withStep, uncleared, unread, viewOf, writeDeed}
 use Rattle.rules.specs.Alarm.Deed.{Idle, Began, CutOff, Measured, Compared, StatusRead, Asked}
 use Rattle.rules.proofs.Choice.{choice}
 use Rattle.rules.specs.Alarm.Flag.{Limit, OpenDiode}
@@ -141,10 +141,6 @@ responses-answered address made es =
     answered (stateOf address es) (latched (historyOf address es)) (well address made es) (agrees address made es .rest .latching)
 
 -- ---- From one event on ----
-
-or-true : (b : Bool) → b || true ≡ true
-or-true true = refl
-or-true false = refl
 
 -- a comparison is no status read, and what sets the latch is no alert response
 limit-unread : (d : Deed) (b : Bool) → isFault (limitFinding d b) ≡ true → isStatusRead d ≡ false
@@ -282,39 +278,46 @@ unfolding historyFrom lastFrom
 alert-stays-low address made es e later set kept t =
     low (stateThen address es e later) (then-agrees address made es e later .rest .latching ∙ still-latched later (answerFor (stateOf address es) e .state) (withStep (historyOf address es) (stateOf address es) e) (set-latches (withStep (historyOf address es) (stateOf address es) e) set) kept) t
 
--- a high limit written in standby, in the history
-module _ (h : History) (s : State) (e : Four) (ch : Channel) (b : ℕ) (form : formOf e ≡ Good (Write (s .given .address) (highCommand ch) b)) (still : standby (s .config) ≡ true) (conv : ever h ≡ true) (over : beyond (viewOf (answerFor s e .state)) ch Above ≡ true) where
-  its-deed : checkedDeed h (viewOf s) (viewOf (answerFor s e .state)) (Good (Write (s .given .address) (highCommand ch) b)) ≡ Compared
-  its-deed = rw (eq-eqb (s .given .address) (s .given .address) refl) (by ch)
-    where
-      by : (c : Channel) → writeDeed h (viewOf s) (viewOf (answerFor s e .state)) (highCommand c) ≡ Compared
-      by Local = rw (still, conv)
-      by Remote = rw (still, conv)
+-- none of the writes that compare is the one-shot
+not-shot : (n : ℕ) → comparesAt n ≡ true → eqb n 0x0f ≡ false
+not-shot n w = by (eqb n 0x0f) refl
+  where
+    by : (t : Bool) → eqb n 0x0f ≡ t → t ≡ false
+    by true e = no (subst (λ (m : ℕ). comparesAt m ≡ true) (eqb-true n 0x0f e) w)
+    by false e = refl
+
+-- a limit written in standby, in the history
+module _ (h : History) (s : State) (e : Four) (n b : ℕ) (ch : Channel) (side : Side) (form : formOf e ≡ Good (Write (s .given .address) n b)) (compares : comparesAt n ≡ true) (still : standby (s .config) ≡ true) (conv : ever h ≡ true) (over : beyond (viewOf (answerFor s e .state)) ch side ≡ true) where
+  its-deed : checkedDeed h (viewOf s) (viewOf (answerFor s e .state)) (Good (Write (s .given .address) n b)) ≡ Compared
+  its-deed = rw (eq-eqb (s .given .address) (s .given .address) refl, not-shot n compares, still, conv, compares)
 
   its-history : withStep h s e ≡ record { deed = Compared; seen = viewOf (answerFor s e .state); reply = answerFor s e .reply } ∷ h
   its-history =
       ap (λ (k : Checked). withEvent h (viewOf s) (viewOf (answerFor s e .state)) (answerFor s e .reply) k) form
       ∙ ap (λ (d : Deed). record { deed = d; seen = viewOf (answerFor s e .state); reply = answerFor s e .reply } ∷ h) its-deed
 
-  it-finds : findsNow (Limit ch Above) (withStep h s e) ≡ true
+  it-finds : findsNow (Limit ch side) (withStep h s e) ≡ true
   it-finds = rw (its-history, over)
 
   it-sets : setsNow (withStep h s e) ≡ true
-  it-sets = rw its-history (by ch over)
+  it-sets = rw its-history (by ch side over)
     where
-      by : (c : Channel) → beyond (viewOf (answerFor s e .state)) c Above ≡ true → findsLimit (record { deed = Compared; seen = viewOf (answerFor s e .state); reply = answerFor s e .reply }) ≡ true
-      by Local o = rw o
-      by Remote o = rw o (third (isFault (outcome (beyond (viewOf (answerFor s e .state)) Local Above))) (isFault (outcome (beyond (viewOf (answerFor s e .state)) Local Below))))
-        where
-          third : (x y : Bool) → x || (y || true) ≡ true
-          third true y = refl
-          third false true = refl
-          third false false = refl
+      v : View
+      v = viewOf (answerFor s e .state)
+
+      found : Channel → Side → Bool
+      found c d = isFault (outcome (beyond v c d))
+
+      by : (c : Channel) (d : Side) → beyond v c d ≡ true → findsLimit (record { deed = Compared; seen = v; reply = answerFor s e .reply }) ≡ true
+      by Local Above o = rw o
+      by Local Below o = rw o (or-true (found Local Above))
+      by Remote Above o = rw (o, or-true (found Local Below)) (or-true (found Local Above))
+      by Remote Below o = rw (o, or-true (found Remote Above), or-true (found Local Below)) (or-true (found Local Above))
 
 pub standby-limit-shown : StandbyLimitShown
 unfolding historyFrom lastFrom
-standby-limit-shown address made es e later r ch b form still conv over calm status =
-    faults-shown address made es e later r (Limit ch Above) (it-finds (historyOf address es) (stateOf address es) e ch b form still conv over) calm status
+standby-limit-shown address made es e later r n b ch side form compares still conv over calm status =
+    faults-shown address made es e later r (Limit ch side) (it-finds (historyOf address es) (stateOf address es) e n b ch side form compares still conv over) calm status
 
 -- an answer's line is its state's
 abbrev Lined : Answer → Type 0
@@ -342,8 +345,8 @@ answer-line s e = choice Lined (wellFormed s) (checkedOf s (formOf e)) (refused 
 
 pub standby-limit-alerts : StandbyLimitAlerts
 unfolding historyFrom lastFrom uncleared
-standby-limit-alerts address made es e ch b form still conv over t =
-    answer-line (stateOf address es) e ∙ alert-stays-low address made es e [] (it-sets (historyOf address es) (stateOf address es) e ch b form still conv over) refl t
+standby-limit-alerts address made es e n b ch side form compares still conv over t =
+    answer-line (stateOf address es) e ∙ alert-stays-low address made es e [] (it-sets (historyOf address es) (stateOf address es) e n b ch side form compares still conv over) refl t
 
 -- ---- A reset ----
 

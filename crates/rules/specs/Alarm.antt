@@ -466,26 +466,21 @@ AlertStaysLow =
     → uncleared (historyThen address es e []) (stateThen address es e []) later ≡ true
     → lineFree (viewOf (stateThen address es e later)) ≡ true → alertLine (stateThen address es e later) ≡ false
 
--- 0B, 0D: where a channel's high limit is written
-abbrev pub highCommand : Channel → ℕ
-highCommand Local = 0x0b
-highCommand Remote = 0x0d
-
--- a high limit written in standby that leaves a converted channel's value above it shows in the next status read
+-- a limit or hysteresis written in standby that leaves a converted channel's value beyond one of its limits shows in the next status read
 abbrev pub StandbyLimitShown : Type 0
 StandbyLimitShown =
-    (address : ℤ) → madeOf address .code ≡ 0 → (es : List Four) (e : Four) (later : List Four) (r : Four) (ch : Channel) (b : ℕ)
-    → formOf e ≡ Good (Write (stateOf address es .given .address) (highCommand ch) b)
+    (address : ℤ) → madeOf address .code ≡ 0 → (es : List Four) (e : Four) (later : List Four) (r : Four) (n b : ℕ) (ch : Channel) (side : Side)
+    → formOf e ≡ Good (Write (stateOf address es .given .address) n b) → comparesAt n ≡ true
     → standby (stateOf address es .config) ≡ true → everConverted (historyOf address es) ≡ true
-    → beyond (viewOf (stateThen address es e [])) ch Above ≡ true → unread (stateThen address es e []) later ≡ true
+    → beyond (viewOf (stateThen address es e [])) ch side ≡ true → unread (stateThen address es e []) later ≡ true
     → isStatusEvent (stateThen address es e later) r ≡ true
-    → bit (placeOf (Limit ch Above)) (answerFor (stateThen address es e later) r .reply) ≡ true
+    → bit (placeOf (Limit ch side)) (answerFor (stateThen address es e later) r .reply) ≡ true
 
--- and ALERT is low at once while those bits are 0
+-- and ALERT is low at once while configuration bits 7 and 5 are 0
 abbrev pub StandbyLimitAlerts : Type 0
 StandbyLimitAlerts =
-    (address : ℤ) → madeOf address .code ≡ 0 → (es : List Four) (e : Four) (ch : Channel) (b : ℕ)
-    → formOf e ≡ Good (Write (stateOf address es .given .address) (highCommand ch) b)
+    (address : ℤ) → madeOf address .code ≡ 0 → (es : List Four) (e : Four) (n b : ℕ) (ch : Channel) (side : Side)
+    → formOf e ≡ Good (Write (stateOf address es .given .address) n b) → comparesAt n ≡ true
     → standby (stateOf address es .config) ≡ true → everConverted (historyOf address es) ≡ true
-    → beyond (viewOf (stateThen address es e [])) ch Above ≡ true
+    → beyond (viewOf (stateThen address es e [])) ch side ≡ true
     → lineFree (viewOf (stateThen address es e [])) ≡ true → answerFor (stateOf address es) e .alert ≡ false
