@@ -6,6 +6,7 @@
  */
 #define _XOPEN_SOURCE 700    /* realpath, mkstemp, setitimer */
 #include "dlaveth.h"
+#include "names.h"
 
 #include <errno.h>
 #include <fcntl.h>
@@ -21,7 +22,7 @@
 
 enum { FAILED = 1, MISCALLED = 2, LINES = 4, SHOWN_BYTES = 40 };
 
-static const char *const line_names[LINES] = {"kind=", "a=", "b=", "c="};
+static const char *const line_names[LINES] = {RECORD_LINES};
 static uint8_t trace[DLAVETH_MOST_BYTES + 1];    /* one more, to see that a trace is too long */
 
 static int fail(const char *form, ...)

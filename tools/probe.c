@@ -6,6 +6,7 @@
  * registers. The empty prefix has no event: code and reply are 0, and the lines are those at the first read.
  */
 #include "dlaveth.h"
+#include "names.h"
 
 #include <stdio.h>
 #include <stdlib.h>
@@ -14,6 +15,7 @@
 enum { MOST_READS = 64, MOST_TRACE = 1 << 20, READ_BYTES = 40 };
 
 static char text[MOST_TRACE + MOST_READS * READ_BYTES];
+static const char *const record_lines[4] = {RECORD_LINES}, *const answer_lines[4] = {ANSWER_LINES};
 
 static int fail(const char *what)
 {
@@ -37,10 +39,14 @@ static const char *back(const char *start, const char *end, int lines)
 /* The numbers of an answer; gives the place behind it, or null. */
 static const char *answer(const char *at, int numbers[4])
 {
-    int used = 0;
-    if (sscanf(at, "code=%d reply=%d alert=%d therm=%d%n", &numbers[0], &numbers[1], &numbers[2], &numbers[3], &used) != 4)
-        return NULL;
-    return at + used + 1;
+    for (int i = 0; i < 4; i++) {
+        size_t named = strlen(answer_lines[i]);
+        int used = 0;
+        if (strncmp(at, answer_lines[i], named) != 0 || sscanf(at + named, "%d%n", &numbers[i], &used) != 1)
+            return NULL;
+        at += named + (size_t)used + 1;
+    }
+    return at;
 }
 
 int main(int count, char **words)
@@ -58,7 +64,8 @@ int main(int count, char **words)
     char tail[MOST_READS * READ_BYTES];
     size_t tail_length = 0;
     for (int i = 0; i < reads; i++)
-        tail_length += (size_t)snprintf(tail + tail_length, READ_BYTES, "kind=3\na=%d\nb=%d\nc=0\n", address, atoi(words[2 + i]));
+        tail_length += (size_t)snprintf(tail + tail_length, READ_BYTES, "%s3\n%s%d\n%s%d\n%s0\n", record_lines[0], record_lines[1], address,
+                                        record_lines[2], atoi(words[2 + i]), record_lines[3]);
 
     size_t room = (length + tail_length) / DLAVETH_RECORD_BYTES * DLAVETH_ANSWER_BYTES;
     char *output = malloc(room + 1);

@@ -27,10 +27,18 @@ fi
 
 x86_tool() {
     local program=target/tools/$1 part
-    if [[ ! -e $program || -n $(find "tools/$1.c" include "$x86_library" -newer "$program" -print -quit) ]]; then
+    if [[ ! -e $program || -n $(find "tools/$1.c" tools/names.txt include "$x86_library" -newer "$program" -print -quit) ]]; then
         mkdir -p target/tools
-        part=$(mktemp "$program.XXXXXX")    # two runs at once build aside and each moves a whole program in
-        "${x86_cc[@]}" -std=c99 -O1 -Wall -Wextra -Wpedantic -Wconversion -Iinclude "tools/$1.c" "$x86_library" -o "$part" || { rm -f "$part"; return 1; }
-        mv "$part" "$program"
+        part=$(mktemp -d "$program.XXXXXX")    # two runs at once build aside and each moves a whole program in
+        # the names of a record's and an answer's lines, from the one table
+        awk '$1 == "record" || $1 == "answer" {
+                 printf "#define %s_LINES", toupper($1)
+                 for (i = 2; i <= NF; i++) printf "%s\"%s=\"", (i > 2 ? ", " : " "), $i
+                 print ""
+             }' tools/names.txt >"$part/names.h"
+        "${x86_cc[@]}" -std=c99 -O1 -Wall -Wextra -Wpedantic -Wconversion -Iinclude "-I$part" "tools/$1.c" "$x86_library" -o "$part/$1" ||
+            { rm -rf "$part"; return 1; }
+        mv "$part/$1" "$program"
+        rm -rf "$part"
     fi
 }
