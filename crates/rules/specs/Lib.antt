@@ -23,3 +23,4 @@ pub mod RuleCases
 pub mod Sound
 pub mod Alarm
 pub mod Kept
+pub mod AlarmCases
