@@ -115,6 +115,9 @@ ruleRows =
     row (answered (write 0x0d 1 ∷ reset ∷ read 0x07 ∷ [])) (0 ∷ 0x55 ∷ 1 ∷ 1 ∷ []) ∷
     row (answered (highTherm ∷ hot (reset ∷ start ∷ status ∷ []))) (0 ∷ 128 ∷ 1 ∷ 1 ∷ []) ∷
     row (answered (send 0x05 ∷ reset ∷ receive ∷ [])) (0 ∷ 0 ∷ 1 ∷ 1 ∷ []) ∷
+    -- power-on has both lines high; a send byte sets the pointer and stores nothing, whatever register the command would write
+    row (answered []) (0 ∷ 0 ∷ 1 ∷ 1 ∷ []) ∷
+    row (answered (send 0x0d ∷ read 0x07 ∷ [])) (0 ∷ 0x55 ∷ 1 ∷ 1 ∷ []) ∷
     -- codes 1 to 5, in their order
     row (answered (four 8 (pos 1) (pos 0) (pos 0) ∷ [])) (1 ∷ 0 ∷ 1 ∷ 1 ∷ []) ∷
     row (answered (four 0 (pos 1) (pos 0) (pos 0) ∷ [])) (2 ∷ 0 ∷ 1 ∷ 1 ∷ []) ∷
