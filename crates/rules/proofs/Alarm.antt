@@ -15,7 +15,6 @@ use Rattle.rules.specs.declared.event.Checked.{Checked}
 use Rattle.rules.specs.declared.event.Checked.the-variants.{Good, Bad}
 use Rattle.rules.specs.declared.register.Channel.{Channel}
 use Rattle.rules.specs.declared.register.Channel.the-variants.{Local, Remote}
-use Rattle.rules.specs.declared.register.Register.{Register}
 use Rattle.rules.specs.declared.register.Register.the-variants.{Config, Rate, Hysteresis, Consecutive, Of}
 use Rattle.rules.specs.declared.register.Source.{Source}
 use Rattle.rules.specs.declared.register.Source.the-variants.{Stored as From, Value, ValueFine, Status, Maker, Revision, Hole}
@@ -29,7 +28,7 @@ use Rattle.rules.specs.declared.state.State.{State}
 use Rattle.rules.specs.Bits.{bit, weight}
 use Rattle.rules.specs.Channels.{any, faultsOf}
 use Rattle.rules.specs.Commands.{sourceOf, targetOf}
-use Rattle.rules.specs.Comparisons.{comparedOf, marksOf, recomparedOf, verdictOf}
+use Rattle.rules.specs.Comparisons.{comparedOf, marksOf, verdictOf}
 use Rattle.rules.specs.Runs.{neededOf, ones}
 use Rattle.rules.specs.Status.{afterStatus, anyFlag, shownMarks, shownOf, statusOf}
 use Rattle.rules.specs.Step.{answerOf, applyOf, checkedOf, done, endOf, onBus, refused, responded, respondOf, responseOf, silent, startOf, stepOf}
@@ -44,12 +43,12 @@ use Rattle.rules.specs.WellFormed.{wellFormed}
 use Rattle.rules.specs.Values.{scaleOf}
 use Rattle.rules.specs.Conversion.{converted, convertedOf}
 use Rattle.rules.specs.Registers.{afterRead, readAtPointer, readingOf, replyOf, withStored}
-use Rattle.rules.specs.Setters.{withBusy, withConfig, withLatch, withPointer, withSensors}
-use Rattle.rules.specs.Write.{bothRecompared, comparedIf, latchedByFaults, oneShot, standbyCompared, stoppedIf, stored, writeCompares, written, writtenTo}
-use Rattle.rules.specs.Alarm.{Deed, Finding, Flag, FlagsStand, Happened, History, LatchStands, Side, SpellsCount, View, answerFor, beyond, clears, readsThatClosed, comparesAt, everConverted as ever, deedIf, finds, findingOf, findsLimit, flagAt, fiveFlags, historyFrom, historyOf, inARow, isFault, isStatusRead, latched, latest, lineFree, measures, needs, withEvent, spellsOpened, orElse, outcome, placeOf, running, stands, stateOf, withStep, viewOf, writeDeed}
+use Rattle.rules.specs.Setters.{withBusy, withPointer, withSensors}
+use Rattle.rules.specs.Write.{bothRecompared, comparedIf, latchedByFaults, standbyCompared, stoppedIf, stored, writeCompares, written, writtenTo}
+use Rattle.rules.specs.Alarm.{Deed, Flag, FlagsStand, Happened, History, LatchStands, SpellsCount, View, answerFor, beyond, readsThatClosed, comparesAt, everConverted as ever, deedIf, findingOf, findsLimit, flagAt, fiveFlags, historyFrom, historyOf, inARow, isFault, isStatusRead, latched, latest, lineFree, measures, needs, withEvent, spellsOpened, outcome, placeOf, running, stands, stateOf, withStep, viewOf, writeDeed}
 use Rattle.rules.specs.Alarm.Side.{Above, Below}
 use Rattle.rules.specs.Alarm.Flag.{Limit, OpenDiode}
-use Rattle.rules.specs.Alarm.Finding.{MadeNone, FoundNothing, FoundFault}
+use Rattle.rules.specs.Alarm.Finding.{MadeNone}
 use Rattle.rules.specs.Alarm.Deed.{Idle, Began, CutOff, Measured, Compared, StatusRead, Asked}
 
 pub no : {A : Type 0} → _≡_ {A = Bool} false true → A

@@ -2,7 +2,7 @@
 use Prim.Native.Nat.{ℕ}
 use mathlib.Core.Path.{_≡_, refl, subst, sym, ap, _∙_}
 use mathlib.Core.Bool.{Bool, true, false, cond, _&&_, _||_, not, and-assoc, or-true}
-use mathlib.Core.List.{List, [], _∷_, map}
+use mathlib.Core.List.{List, [], _∷_}
 use lib.Dec.{eqb}
 use native.Mathlib.Omega.{arith}
 use lib.IntN.{ℤ}
@@ -10,10 +10,6 @@ use lib.IntN.ℤ.{pos, negsuc}
 use borrow.Author.Tests.{eq-eqb, eqb-true}
 use Rattle.rules.specs.declared.register.Channel.{Channel}
 use Rattle.rules.specs.declared.register.Channel.the-variants.{Local, Remote}
-use Rattle.rules.specs.declared.register.Register.{Register}
-use Rattle.rules.specs.declared.register.Register.the-variants.{Config, Rate, Hysteresis, Consecutive, Of}
-use Rattle.rules.specs.declared.register.Target.{Target}
-use Rattle.rules.specs.declared.register.Target.the-variants.{Stored as Into, OneShot, Nowhere}
 use Rattle.rules.specs.declared.register.Source.{Source}
 use Rattle.rules.specs.declared.register.Source.the-variants.{Stored as From, Value, ValueFine, Status, Maker, Revision, Hole}
 use Rattle.rules.specs.declared.event.Event.{Event}
@@ -21,30 +17,28 @@ use Rattle.rules.specs.declared.event.Event.the-variants.{Reset, Send, W
 use Rattle.rules.specs.declared.event.Checked.{Checked}
 use Rattle.rules.specs.declared.event.Checked.the-variants.{Good, Bad}
 use Rattle.rules.specs.declared.answer.Answer.{Answer}
-use Rattle.rules.specs.declared.answer.Done.{Done}
 use Rattle.rules.specs.declared.state.State.{State}
 use Rattle.rules.specs.Bits.{bit}
-use Rattle.rules.specs.Channels.{any}
-use Rattle.rules.specs.Commands.{sourceOf, targetOf}
+use Rattle.rules.specs.Commands.{sourceOf}
 use Rattle.rules.specs.Configuration.{choosesTherm2, masked, standby}
 use Rattle.rules.specs.Lines.{alertLine, alertLow}
 use Rattle.rules.specs.PowerOn.{isAddress, madeAt, madeOf, noState, powerOn}
 use Rattle.rules.specs.Sound.{after}
-use Rattle.rules.specs.Keeps.{trimOf}
-use Rattle.rules.specs.Registers.{afterRead, readAtPointer, readingOf, replyOf, withStored}
+use Rattle.rules.specs.Registers.{readAtPointer, readingOf, replyOf}
 use Rattle.rules.specs.Setters.{withBusy, withPointer}
 use Rattle.rules.specs.Conversion.{converted}
-use Rattle.rules.specs.Write.{comparedIf, standbyCompared, stoppedIf, stored, writeCompares, written, writtenTo}
-use Rattle.rules.specs.Status.{afterStatus, statusOf}
-use Rattle.rules.specs.Step.{answerOf, applyOf, checkedOf, done, endOf, onBus, refused, responded, respondOf, responseOf, silent, startOf, stepOf}
+use Rattle.rules.specs.Write.{written}
+use Rattle.rules.specs.Status.{statusOf}
+use Rattle.rules.specs.Step.{answerOf, applyOf, checkedOf, done, endOf, refused, responded, respondOf, responseOf, silent, startOf, stepOf}
 use Rattle.rules.specs.Trial.{Four, lastFrom, respond}
 use Rattle.rules.specs.WellFormed.{wellFormed}
 use Rattle.rules.specs.Alarm.{AlertStaysLow, Deed, FaultsShown, Flag, Happened, History, LineShown, NoneInvented, ReadsShow, ResetBeginsAnew, ResponsesAnswered, Side, StandbyLimitAlerts, StandbyLimitShown, View, answerFor, beyond, checkedDeed, checkedReads, clearsLatchNow, comparesAt, everConverted as ever, deedIf, diodeFinding, finds, findsLimit, findsNow, flagAt, formOf, historyFrom, historyOf, historyThen, inARow, isAnswered, isFault, isReset, isStatusEvent, isStatusRead, latched, limitFinding, lineFree, needs, withEvent, outcome, placeOf, readsStatus, running, setBy, sets, setsNow, stands, stateOf, stateThen, withStep, uncleared, unread, viewOf, writeDeed}
 use Rattle.rules.specs.Alarm.Deed.{Idle, Began, CutOff, Measured, Compared, StatusRead, Asked}
+use Rattle.rules.proofs.Kept.{given-kept}
 use Rattle.rules.proofs.Choice.{choice}
 use Rattle.rules.specs.Alarm.Flag.{Limit, OpenDiode}
 use Rattle.rules.specs.Alarm.Side.{Above, Below}
-use Rattle.rules.proofs.Alarm.{Agrees, RestOf, Shown, agrees, all-more, holds, isStatus, no, one-more, reads, shown}
+use Rattle.rules.proofs.Alarm.{Agrees, agrees, all-more, holds, isStatus, no, one-more, reads, shown}
 use Rattle.rules.proofs.WellFormed.{fresh-well-formed, left, right, steps-well-formed}
 use Rattle.rules.proofs.NeverSix.{after-well}
 
@@ -351,70 +345,10 @@ standby-limit-alerts address made es e n b ch side form compares still conv over
 -- ---- A reset ----
 
 -- whatever is given with the address is kept by every event
-abbrev Kept : State → State → Type 0
-Kept s t = t .given ≡ s .given
-
-stored-kept : (s : State) (r : Register) (b : ℕ) → Kept s (withStored s r b)
-stored-kept s Config b = refl
-stored-kept s Rate b = refl
-stored-kept s Hysteresis b = refl
-stored-kept s Consecutive b = refl
-stored-kept s (Of Local q) b = refl
-stored-kept s (Of Remote q) b = refl
-
-stopped-kept : (s : State) (c : ℕ) (t : State) → Kept s t → Kept s (stoppedIf c t)
-stopped-kept s c t e = choice (Kept s) (not (standby c) && standby (t .config)) (withBusy t false) t e e
-
-compared-kept : (s : State) (w : Bool) (t : State) → Kept s t → Kept s (comparedIf w t)
-unfolding standbyCompared
-compared-kept s w t e = choice (Kept s) (w && standby (t .config)) (standbyCompared t) t e e
-
-target-kept : (s : State) (n b : ℕ) (t : Target) → Kept s (writtenTo (withPointer s n) t b)
-unfolding stored
-target-kept s n b (Into r) =
-    compared-kept s (writeCompares r) (stoppedIf (s .config) (withStored (withPointer s n) r (trimOf r b))) (stopped-kept s (s .config) (withStored (withPointer s n) r (trimOf r b)) (stored-kept (withPointer s n) r (trimOf r b)))
-target-kept s n b OneShot =
-    choice (Kept s) (standby (s .config) && not (s .busy)) (withBusy (withPointer s n) true) (withPointer s n) refl refl
-target-kept s n b Nowhere = refl
-
-read-kept : (s : State) (src : Source) → Kept s (afterRead s src)
-unfolding afterStatus
-read-kept s (From r) = refl
-read-kept s (Value ch) = refl
-read-kept s (ValueFine ch) = refl
-read-kept s Status = refl
-read-kept s Maker = refl
-read-kept s Revision = refl
-read-kept s Hole = refl
-
-event-kept : (s : State) (e : Event) → Kept s (applyOf s e .state)
-unfolding applyOf respondOf startOf endOf readAtPointer written converted
-event-kept s Reset = refl
-event-kept s (Send a n) = choice (λ (x : Answer). Kept s (x .state)) (eqb a (s .given .address)) (done (silent (withPointer s n))) (refused 3 s) refl refl
-event-kept s (Write a n b) =
-    choice (λ (x : Answer). Kept s (x .state)) (eqb a (s .given .address)) (done (silent (written s n b))) (refused 3 s) (target-kept s n b (targetOf n)) refl
-event-kept s (Read a n) =
-    choice (λ (x : Answer). Kept s (x .state)) (eqb a (s .given .address)) (done (readAtPointer (withPointer s n))) (refused 3 s) (read-kept (withPointer s n) (sourceOf n)) refl
-event-kept s (Receive a) =
-    choice (λ (x : Answer). Kept s (x .state)) (eqb a (s .given .address)) (done (readAtPointer s)) (refused 3 s) (read-kept s (sourceOf (s .pointer))) refl
-event-kept s Respond =
-    choice (λ (x : Answer). Kept s (x .state)) (alertLow s) (answerOf 0 (responseOf (s .given .address)) (responded s)) (refused 3 s) refl refl
-event-kept s Start = choice (λ (x : Answer). Kept s (x .state)) (standby (s .config) || s .busy) (refused 4 s) (done (silent (withBusy s true))) refl refl
-event-kept s (End l r cut) = choice (λ (x : Answer). Kept s (x .state)) (s .busy) (done (silent (converted s l r cut))) (refused 5 s) refl refl
-
-form-kept : (s : State) (k : Checked) → Kept s (checkedOf s k .state)
-form-kept s (Good e) = event-kept s e
-form-kept s (Bad code) = refl
-
-answer-kept : (s : State) (e : Four) → Kept s (answerFor s e .state)
-unfolding stepOf
-answer-kept s e =
-    choice (λ (x : Answer). Kept s (x .state)) (wellFormed s) (checkedOf s (formOf e)) (refused 6 s) (form-kept s (formOf e)) refl
-
-all-kept : (es : List Four) (x : Answer) → Kept (x .state) (lastFrom x es .state)
+all-kept : (es : List Four) (x : Answer) → lastFrom x es .state .given ≡ x .state .given
 unfolding lastFrom
 all-kept [] x = refl
-all-kept (e ∷ es) x = all-kept es (answerFor (x .state) e) ∙ answer-kept (x .state) e
+all-kept (e ∷ es) x = all-kept es (answerFor (x .state) e) ∙ given-kept (x .state) e
 
 -- the state that a chip is made with is a power-on with what was given
 made-power : (address : ℤ) → madeOf address .code ≡ 0 → powerOn (madeOf address .state .given) ≡ madeOf address .state

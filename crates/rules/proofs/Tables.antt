@@ -32,7 +32,7 @@ pub write-met : WriteMet
 write-met = refl
 
 pub quiet-met : QuietMet
-unfolding quiet
+unfolding sourceOf targetOf marksOf converted convertedOf readAtPointer neededOf statusOf afterStatus applyOf endOf respondOf startOf stepOf lastFrom codeOf offsetOf wellFormed standbyCompared stored written everConverted historyFrom historyOf inARow latched latest readsThatClosed running spellsOpened stands uncleared unread quiet
 quiet-met = refl
 
 pub counts-met : CountsMet

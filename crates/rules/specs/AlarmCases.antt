@@ -17,7 +17,7 @@ use Rattle.rules.specs.Channels.{any}
 use Rattle.rules.specs.Configuration.{standby}
 use Rattle.rules.specs.Kept.{measures}
 use Rattle.rules.specs.PowerOn.{madeOf}
-use Rattle.rules.specs.Trial.{Four, convert, read, receive, reset, respond, send, start, status, write}
+use Rattle.rules.specs.Trial.{Four, convert, end, read, receive, reset, respond, send, start, status, write}
 use Rattle.rules.specs.WellFormed.{wellFormed}
 
 -- K12: converted, put in standby, the remote high limit lowered under the value; then other events, but no status read
@@ -58,11 +58,11 @@ PremisesMet = any (map not met) ≡ false
 abbrev pub WriteMet : Type 0
 WriteMet = formOf lowered ≡ Good (Write 76 0x0d 40)
 
--- only the end of a conversion and a reset may change a value
+-- only the end of a conversion that runs and a reset may change a value; here none runs
 unfoldable pub quiet : List Bool
 quiet =
-    map (λ (e : Four). measures (formOf e))
-    (send 0x05 ∷ write 0x05 1 ∷ read 0x05 ∷ receive ∷ respond ∷ start ∷ write 0x05 256 ∷ [])
+    map (λ (e : Four). measures (stateNow []) (formOf e))
+    (send 0x05 ∷ write 0x05 1 ∷ read 0x05 ∷ receive ∷ respond ∷ start ∷ end (pos 20) (pos 200) 0 ∷ write 0x05 256 ∷ [])
 
 abbrev pub QuietMet : Type 0
 QuietMet = any quiet ≡ false

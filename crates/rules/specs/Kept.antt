@@ -1,11 +1,11 @@
--- What an event leaves alone, from any state: a register changes only by a write to it, a value only by a conversion, the pointer only by a command, and
--- with a refusal nothing. The history of alarms believes what it is shown of these. The proofs are in proofs/Kept.antt. Assumes nothing.
+-- What an event leaves alone, from any state: the address always; but for a power-on, a register unless it is written, a value unless a conversion
+-- ends, the pointer unless a command sets it; and with a refusal everything. The history of alarms believes what it is shown of these. The proofs are
+-- in proofs/Kept.antt. Assumes nothing.
 use Prim.Native.Nat.{ℕ, zero, suc, _+_}
 use mathlib.Core.Path.{_≡_}
 use mathlib.Core.Bool.{Bool, cond, true, false}
 use mathlib.Core.List.{List, [], _∷_, _++_}
 use lib.Dec.{eqb}
-use Rattle.rules.specs.declared.event.Event.{Event}
 use Rattle.rules.specs.declared.event.Event.the-variants.{Reset, Send, Write, Read, Receive, Respond, Start, End}
 use Rattle.rules.specs.declared.event.Checked.{Checked}
 use Rattle.rules.specs.declared.event.Checked.the-variants.{Good, Bad}
@@ -27,7 +27,8 @@ use Rattle.rules.specs.WellFormed.{wellFormed}
 
 -- ---- Registers ----
 
--- every byte that the bus wrote, one behind the other, and the place of each
+-- every stored byte of what the bus writes, one behind the other, and the place of each; the local channel's low bytes and offset, which no command
+-- names, are among them
 abbrev pub settingBytes : Settings → List ℕ
 settingBytes t = t .high ∷ t .highfine ∷ t .low ∷ t .lowfine ∷ t .offset ∷ t .offsetfine ∷ t .therm ∷ []
 
@@ -83,20 +84,20 @@ RegistersKept = (s : State) (e : Four) → wellFormed s ≡ true → bytesOf (an
 abbrev pub valuesOf : State → List ℕ
 valuesOf s = s .local .value ∷ s .remote .value ∷ []
 
--- a conversion ends, or the chip is powered on
-abbrev pub measures : Checked → Bool
-measures (Good Reset) = true
-measures (Good (Send a n)) = false
-measures (Good (Write a n b)) = false
-measures (Good (Read a n)) = false
-measures (Good (Receive a)) = false
-measures (Good Respond) = false
-measures (Good Start) = false
-measures (Good (End l r broken)) = true
-measures (Bad code) = false
+-- a conversion that runs ends, or the chip is powered on
+abbrev pub measures : State → Checked → Bool
+measures s (Good Reset) = true
+measures s (Good (Send a n)) = false
+measures s (Good (Write a n b)) = false
+measures s (Good (Read a n)) = false
+measures s (Good (Receive a)) = false
+measures s (Good Respond) = false
+measures s (Good Start) = false
+measures s (Good (End l r broken)) = s .busy
+measures s (Bad code) = false
 
 abbrev pub ValuesKept : Type 0
-ValuesKept = (s : State) (e : Four) → measures (formOf e) ≡ false → valuesOf (answerFor s e .state) ≡ valuesOf s
+ValuesKept = (s : State) (e : Four) → measures s (formOf e) ≡ false → valuesOf (answerFor s e .state) ≡ valuesOf s
 
 -- "Kinds 1, 2, 3 set the pointer to the command"; power-on, "pointer 00"
 abbrev pub pointerAfter : State → Checked → ℕ
@@ -113,7 +114,15 @@ pointerAfter s (Bad code) = s .pointer
 abbrev pub PointerKept : Type 0
 PointerKept = (s : State) (e : Four) → wellFormed s ≡ true → answerFor s e .state .pointer ≡ pointerAfter s (formOf e)
 
--- ---- Refusals ----
+-- ---- The address, and refusals ----
+
+-- "address kept"
+abbrev pub GivenKept : Type 0
+GivenKept = (s : State) (e : Four) → answerFor s e .state .given ≡ s .given
+
+-- 6, "state not well formed", before every other code
+abbrev pub IllFormedRefused : Type 0
+IllFormedRefused = (s : State) (e : Four) → wellFormed s ≡ false → answerFor s e .code ≡ 6
 
 -- "Codes 1 to 6 give reply byte 0 and the state as it came"
 abbrev pub RefusedKept : Type 0
