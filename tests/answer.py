@@ -371,7 +371,7 @@ def shown(room):
         done = subprocess.run([TOOLS / "show.py", file], stdout=full, stderr=subprocess.PIPE, text=True)
     check("a full device", differs((done.returncode, done.stderr), (1, "standard output: No space left on device\n")))
     check("no other address", differs((run("show.py", file, "--address", "78")[:2]), (2, "")))
-    for name in "show.py", "explain.py", "trace.py", "table.py", "names.txt":
+    for name in "show.py", "explain.py", "trace.py", "output.py", "table.py", "names.txt":
         shutil.copy(TOOLS / name, room)
     (room / "answer.sh").write_text("#!/bin/sh\necho a message >&2\nexit 5\n")
     (room / "answer.sh").chmod(0o755)

@@ -140,6 +140,8 @@ def notation(room):
     check(f"{len(REFUSED)} bad lines are refused by file and line, and no file appears", wrong)
 
     code, out, said = run("trace.py", given=b"start\nfrobnicate\n")
+    check("records in the notation's place", differs(run("trace.py", TRACES / "k11.trace"),
+                                                     (1, "", f"{TRACES / 'k11.trace'}:1: these are records, not the notation; tools/show.py takes both\n")))
     check("nothing of a bad notation reaches standard output", differs((code, out, said), (1, "", "standard input:2: frobnicate: no such word\n")))
 
     target.write_text("as it was")
@@ -295,7 +297,7 @@ def one_table(room):
     check("a name outside the table would be found", differs(literals("x = ['busy', 'b', 'c d']", names), ["b", "busy"]))
     wrong = []
     for line in "nonsense 1", "kind 8 again none nowhere", "code 0 twice", "register read 0x02 status", "field x 0 y whole", "bit status":
-        for name in "table.py", "trace.py", "names.txt":
+        for name in "table.py", "output.py", "trace.py", "names.txt":
             (room / name).write_text((ROOT / "tools" / name).read_text() + (line + "\n" if name == "names.txt" else ""))
         done = subprocess.run([sys.executable, room / "trace.py"], input=b"", capture_output=True)
         place = len((room / "names.txt").read_text().splitlines())
@@ -345,8 +347,18 @@ def recorded(room):
     check("their words lead back to their records", back or differs((code, said, len(have)), (0, "", len(wanted_back))))
 
 
+def unwritable(room):
+    """Standard output that is full or closed: a message and no trace of the tool's inside."""
+    trace, answers = TRACES / "k11.trace", TRACES / "k11.answers"
+    for tool, *words in [("trace.py", ROOT / "examples" / "standby.txt"), ("explain.py", trace, answers)]:
+        command = [sys.executable, ROOT / "tools" / tool, *words]
+        for shell, why in [('exec "$@" >/dev/full', "No space left on device"), ('exec "$@" >&-', "Bad file descriptor")]:
+            done = subprocess.run(["bash", "-c", shell, "bash", *command], capture_output=True, text=True)
+            check(f"{tool}: {why}", differs((done.returncode, done.stderr), (1, f"standard output: {why}\n")))
+
+
 def main():
-    for part in notation, words, bad_words, one_table, recorded:
+    for part in notation, words, bad_words, one_table, recorded, unwritable:
         with tempfile.TemporaryDirectory() as room:
             part(Path(room))
     end()

@@ -149,6 +149,14 @@ def bad(room):
     check("refused: no such file", differs(run(missing), (1, "", f"{missing}: No such file or directory\n")))
     path = room / "none" / "k11"
     check("refused: no such folder", differs(run(TRACES / "k11.trace", "-o", path), (1, "", f"{path}.vcd: No such file or directory\n")))
+    folder = room / "taken"
+    (folder / "k11.png").mkdir(parents=True)
+    have = run(TRACES / "k11.trace", "-o", folder / "k11"), sorted(one.name for one in folder.iterdir())
+    if shutil.which("gnuplot"):
+        check("where one file cannot be written, neither is", differs(have, ((1, "", f"{folder / 'k11'}.png: not a plain file\n"), ["k11.png"])))
+    shutil.rmtree(folder)
+    check("refused: a folder for a name", differs(run(TRACES / "k11.trace", "-o", f"{room}/"), (1, "", f"{room}/.vcd: a name is wanted, not a folder\n")))
+    check("refused: standard input without a name", differs(run("-")[0], 2))
     check("refused: address 78", differs(run(TRACES / "k11.trace", "--address", "78", "-o", room / "k11")[0], 2))
     check("none of them left a file", differs(sorted(one.name for one in room.iterdir()), ["bad.trace"]))
     # Old files stay as they are where the new ones are not made.

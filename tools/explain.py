@@ -5,6 +5,7 @@ import re
 import signal
 import sys
 
+from output import say
 from table import USUAL_ADDRESS, Table
 
 TABLE = Table()
@@ -187,7 +188,7 @@ def main():
         sys.exit(f"{path}: {error.strerror}")
     except Bad as bad:
         sys.exit(f"{'standard input' if path == '-' else path}:{bad.place}: {bad}")
-    sys.stdout.write(whole(records, answers, ending, given.trace))
+    say(whole(records, answers, ending, given.trace))
 
 
 if __name__ == "__main__":

@@ -11,6 +11,7 @@ from pathlib import Path
 
 import explain
 import trace
+from output import say
 from table import USUAL_ADDRESS
 
 BEGINS = explain.TABLE.lines["record"][0].encode() + b"="    # no line of the notation does
@@ -57,10 +58,8 @@ def main():
     named = "standard input" if given.file == "-" else given.file
     try:
         text = show(given.file, given.address, named)
-        named = "standard output"
         signal.signal(signal.SIGPIPE, signal.SIG_DFL)    # a reader that stops early is no error
-        with open(1, "w", closefd=False) as out:
-            out.write(text)
+        say(text)
         return 0
     except explain.Bad as bad:
         said = f"{named}:{bad.place}: {bad}"

@@ -5,9 +5,9 @@ import os
 import re
 import signal
 import sys
-import tempfile
 from fractions import Fraction
 
+from output import put, say
 from table import LARGEST, USUAL_ADDRESS, Table
 
 TABLE = Table()
@@ -85,6 +85,8 @@ def record(word, words, address):
 def records(text, address):
     """The records of a notation, and the line and reason of what is wrong in it."""
     found, wrong = [], []
+    if text.startswith(TABLE.lines["record"][0] + "="):
+        return found, [(1, "these are records, not the notation; tools/show.py takes both")]
     for place, line in enumerate(text.split("\n"), 1):
         words = line.partition("#")[0].split()
         if not words:
@@ -110,26 +112,6 @@ def records(text, address):
 
 def written(found):
     return "".join(f"{name}={number}\n" for numbers in found for name, number in zip(TABLE.lines["record"], numbers))
-
-
-def put(path, data):
-    """Writes a file whole or not at all: whoever reads it never sees a part."""
-    path = os.path.realpath(path)
-    there = os.path.exists(path)
-    if there and not os.path.isfile(path):
-        raise OSError("not a plain file")
-    umask = os.umask(0)
-    os.umask(umask)
-    mode = os.stat(path).st_mode & 0o777 if there else 0o666 & ~umask
-    handle, part = tempfile.mkstemp(dir=os.path.dirname(path))
-    try:
-        with os.fdopen(handle, "wb") as file:
-            file.write(data)
-        os.chmod(part, mode)
-        os.replace(part, path)
-    except BaseException:
-        os.unlink(part)
-        raise
 
 
 def help_text():
@@ -165,14 +147,14 @@ def main():
     if wrong:
         sys.exit("\n".join(f"{named}:{place}: {what}" for place, what in wrong))
     if given.out is None:
-        sys.stdout.write(written(found))
+        say(written(found))
         return
     try:
         if given.notation != "-" and os.path.exists(given.out) and os.path.samefile(given.out, given.notation):
-            raise OSError("this is the notation itself")
-        put(given.out, written(found).encode())
+            raise OSError(0, "this is the notation itself")
+        put((given.out, written(found).encode()))
     except OSError as error:
-        sys.exit(f"{given.out}: {error.strerror or error}")
+        sys.exit(f"{given.out}: {error.strerror}")
 
 
 if __name__ == "__main__":

@@ -17,8 +17,8 @@ from pathlib import Path
 
 import explain
 import show
+from output import put
 from table import USUAL_ADDRESS
-from trace import put
 
 TABLE = explain.TABLE
 WRITE, READ, RESPOND, END = 2, 3, 5, 7                 # kinds
@@ -266,39 +266,44 @@ def draw(script):
 # ---- the command
 
 
-def save(path, data, trace):
+def save(files, trace):
     try:
-        if os.path.exists(path) and os.path.samefile(path, trace):
-            raise OSError("this is the trace itself")
-        put(path, data)
+        for path, _ in files:
+            if not os.path.basename(path).partition(".")[0]:
+                raise OSError(0, "a name is wanted, not a folder", path)
+            if trace != "-" and os.path.exists(path) and os.path.samefile(path, trace):
+                raise OSError(0, "this is the trace itself", path)
+        put(*files)
     except OSError as error:
-        raise Failed(f"{path}: {error.strerror or error}") from error
+        raise Failed(f"{error.filename}: {error.strerror}") from error
 
 
 def waves(trace, address, name):
-    with open(trace, "rb") as file:
-        data = show.trace_of(file.read(), address, trace)
+    named = "standard input" if trace == "-" else trace
+    data = show.trace_of(explain.read(trace), address, named)
     records = explain.records_of(data)
     if len(records) > MOST:
-        raise Failed(f"{trace}: {len(records)} records, at most {MOST} are taken: each event replays all before it")
-    named = "".join(one if one.isprintable() else "?" for one in os.path.basename(trace))
+        raise Failed(f"{named}: {len(records)} records, at most {MOST} are taken: each event replays all before it")
+    named = "".join(one if one.isprintable() else "?" for one in os.path.basename(named))
     shown = probe(data, address, len(records))
     text = vcd(shown, named).encode()
     image = draw(picture(records, shown, named)) if shutil.which("gnuplot") else None
-    save(name + ".vcd", text, trace)
+    files = [(name + ".vcd", text)] + [(name + ".png", image)] * (image is not None)
+    save(files, trace)
     if image is None:
         print(f"gnuplot is missing (Debian's package gnuplot-nox): {name}.vcd is written, {name}.png is not drawn", file=sys.stderr)
         return 3
-    save(name + ".png", image, trace)
     return 0
 
 
 def main():
     parser = argparse.ArgumentParser(description=__doc__, formatter_class=argparse.RawDescriptionHelpFormatter)
-    parser.add_argument("trace", help=f"at most {MOST} records; tools/trace.py --help has the notation")
+    parser.add_argument("trace", help=f"at most {MOST} records; - is standard input, with -o; tools/trace.py --help has the notation")
     parser.add_argument("--address", type=int, choices=[76, 77], default=USUAL_ADDRESS, help=f"the chip's bus address, {USUAL_ADDRESS} where none is given")
     parser.add_argument("-o", metavar="NAME", dest="name", help="NAME.vcd and NAME.png are written; where none is given, the trace's path without its ending")
     given = parser.parse_args()
+    if given.trace == "-" and given.name is None:
+        parser.error("standard input has no name: -o NAME is wanted")
     try:
         return waves(given.trace, given.address, given.name or given.trace.removesuffix(".trace").removesuffix(".txt"))
     except explain.Bad as bad:

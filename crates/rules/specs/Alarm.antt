@@ -31,8 +31,8 @@ use Rattle.rules.specs.Values.{scaleOf}
 
 -- ---- What the history is given ----
 
--- "never from stored flags": of a state, only its address, pointer, registers and values, as the step stores them (that only a write, a
--- conversion and a power-on change these is claimed in Kept.antt). No flag, no verdict, no run count, no converted mark, no latch, and not whether
+-- "never from stored flags": of a state, only its address, pointer, registers and values, as the step stores them (Kept.antt claims what alone
+-- changes these). No flag, no verdict, no run count, no converted mark, no latch, and not whether
 -- a conversion runs
 pub record View : Type 0 where
   pub address : ℕ
