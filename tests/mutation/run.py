@@ -180,13 +180,22 @@ def key_of(unit, edit, text):
     return f"{unit.path}:{unit.name}:{edit.start}:{edit.old}:{edit.new}:{digest}"
 
 
+def whole():
+    """A digest of all that is proved."""
+    paths = [path for path in sorted((ROOT / "crates").rglob("*")) if path.suffix in (".antt", ".rt")]
+    return hashlib.sha256(b"".join(path.read_bytes() for path in paths)).hexdigest()[:16]
+
+
 class Results:
+    """What was tried. An edit that survived something else than what stands now is tried again."""
+
     def __init__(self):
-        self.lock, self.lines = threading.Lock(), {}
+        self.lock, self.lines, self.whole = threading.Lock(), {}, whole()
         if RESULTS.exists():
             for line in RESULTS.read_text().splitlines():
                 entry = json.loads(line)
-                self.lines[entry["key"]] = entry
+                if entry["verdict"] != SURVIVED or entry["whole"] == self.whole:
+                    self.lines[entry["key"]] = entry
 
     def add(self, entry):
         with self.lock:
@@ -228,7 +237,7 @@ def run(todo, rounds, jobs, deps, results):
                 attempts += 1
                 began = time.time()
                 verdict, why, crate = worker.verdict(unit, edit)
-                results.add({"key": key, "unit": f"{unit.path}:{unit.name}", "crate": unit.crate, "kind": edit.kind, "old": edit.old,
+                results.add({"key": key, "whole": results.whole, "unit": f"{unit.path}:{unit.name}", "crate": unit.crate, "kind": edit.kind, "old": edit.old,
                              "new": edit.new, "verdict": verdict, "at": crate, "why": why, "seconds": round(time.time() - began, 1)})
                 print(f"{place}/{len(queue)} {unit.path}:{unit.name}: {edit.kind}: {verdict} {crate if verdict == REFUSED else ''}", flush=True)
 
