@@ -13,8 +13,12 @@ SWAPPED = [
     ("true", "false"), ("ltb", "leb"), ("high", "low"), ("High", "Low"), ("highfine", "lowfine"), ("HighFine", "LowFine"), ("found", "flag"), ("Local", "Remote"),
     ("local", "remote"), ("Above", "Below"), ("Short", "Never"), ("alert", "therm"), ("used", "written"), ("config", "rate"), ("a", "b"),
     ("take", "drop"), ("Maker", "Revision"), ("Start", "Respond"), ("min", "max"),
+    ("therm", "high"), ("Therm", "High"), ("offset", "offsetfine"),
 ]
-WORDS = {x: y for pair in SWAPPED for x, y in (pair, pair[::-1])}
+WORDS = {}
+for one, two in SWAPPED:
+    WORDS.setdefault(one, []).append(two)
+    WORDS.setdefault(two, []).append(one)
 SIGNS = {
     "<": "<=", "<=": "<", ">": ">=", ">=": ">", "==": "!=", "!=": "==", "&&": "||", "||": "&&", "&": "|", "|": "&", "+": "-", "-": "+",
     "*": "+", "/": "*", "%": "/", "+=": "-=", "<<": ">>", ">>": "<<",
@@ -92,6 +96,55 @@ def of_any_application(text):
                     yield "call dropped", m.start(), args[-1][1], text[one[0]:one[1]]
 
 
+def parts(text):
+    """What stands between the commas of a call."""
+    found, depth, begin = [], 0, 0
+    for place, sign in enumerate(text + ","):
+        depth += (sign in "([{") - (sign in ")]}")
+        if sign == "," and depth == 0:
+            found.append(text[begin:place].strip())
+            begin = place + 1
+    return [one for one in found if one]
+
+
+PLAIN = {"u8": "0", "u16": "0", "i16": "0", "i32": "0", "usize": "0", "bool": "false", "Channel": "Channel::Local",
+         "ℕ": "0", "Bool": "false", "ℤ": "(lib.IntN.ℤ.pos 0)"}
+
+
+def of_parameters(text, head):
+    """A parameter ignored, by what stands before the body; and a truth value denied."""
+    for name, sort in re.findall(r"\b(\w+): (\w+)", head):
+        if sort in PLAIN:
+            for m in re.finditer(rf"(?<![\w.:]){name}(?!\w|: )", text):
+                alone = re.search(r"\n\s*$", text[:m.start()]) and text[m.end():].startswith(",")    # a field named as the parameter
+                yield "parameter ignored", m.start(), m.end(), f"{name}: {PLAIN[sort]}" if alone else PLAIN[sort]
+    if re.search(r"-> bool$", head.partition("\n")[0]):
+        for m in re.finditer(r"^    (?=[a-z(!])(?!let )(?!if )(?!match )", text, re.M):
+            yield "denied", m.end(), m.end(), "!"
+
+
+def of_signature(text, head):
+    """The same for an equation of a definition."""
+    sorts, _, patterns = head.partition("\n")
+    sorts = [one.strip() for one in sorts.partition(" : ")[2].split("→")]
+    names = patterns.split()[1:]
+    if "(" not in patterns:
+        for name, sort in zip(names, sorts):
+            new = "[]" if sort.startswith("List ") else PLAIN.get(sort)
+            if new:
+                for m in re.finditer(rf"(?<![\w·.-]){re.escape(name)}(?![\w·-]| =)", text):
+                    yield "parameter ignored", m.start(), m.end(), new
+    if sorts[-1] == "Bool" and text.strip():
+        yield "denied", len(text) - len(text.lstrip()), len(text.rstrip()), f"mathlib.Core.Bool.not ({text.strip()})"
+    for m in re.finditer(r"(?:(?<=[({=] )|(?<=∷ )|(?<=\n    )|(?<=\A ))((?:[\w.]+|\([^()]*\))(?: (?:[\w.]+|\([^()]*\)))*) ∷ (?!\[\]\s*$)", text):
+        yield "element dropped", m.start(), m.end(), ""
+    for m in re.finditer(r"(?<![\w·.-])(true|false)(?![\w·-])", text):
+        yield "another word", m.start(), m.end(), f"mathlib.Core.Bool.{WORDS[m[0]][0]}"
+    for m in re.finditer(r"(\w+) = (\w+)(?=[; ])", text):
+        if owner := re.search(r"= (\w+) \.\w+", text):
+            yield "field kept", m.start(2), m.end(2), f"{owner[1]} .{m[1]}"
+
+
 def of_code(text):
     for m in re.finditer(r"if ([^{}\n]*) \{\s*([^{}]*?)\s*\} else \{\s*([^{}]*?)\s*\}", text):
         yield "branches exchanged", m.start(), m.end(), f"if {m[1]} {{ {m[3]} }} else {{ {m[2]} }}"
@@ -104,8 +157,12 @@ def of_code(text):
     for m in re.finditer(r"\b\w+\((&?\w+(?:\.\w+)*), (&?\w+(?:\.\w+)*)(?=[,)])", text):
         if m[1] != m[2]:
             yield "arguments exchanged", m.start(1), m.end(2), f"{m[2]}, {m[1]}"
-    for m in re.finditer(r"(?:\b\w+::)*\b[a-z]\w*(?=\((\w+)[,)])", text):
-        yield "call dropped", m.start(), closing(text, m.end()), m[1]
+    for m in re.finditer(r"(?:\b\w+::)*\b[a-z]\w*(?=\()", text):
+        end = closing(text, m.end())
+        for one in parts(text[m.end() + 1:end - 1]):
+            yield "call dropped", m.start(), end, one
+    for m in re.finditer(r"\b[A-Z]\w* (?=\{[^{}]*\.\.(\w+)\s*\})", text):
+        yield "update dropped", m.start(), closing(text, m.end()), m[1]
 
 
 def of_words(text):
@@ -117,20 +174,41 @@ def of_words(text):
         if n:
             yield "one less", m.start(), m.end(), hex(n - 1) if m[1].startswith("0x") else str(n - 1)
     for m in WORD.finditer(text):
-        if m[0] in WORDS and text[m.end():m.end() + 4] not in (" => ", ": ") and not text[m.end():].startswith((": ", " =")):
-            yield "another word", m.start(), m.end(), WORDS[m[0]]
+        if m[0] in WORDS and not text[m.end():].startswith((" => ", ": ", " = ")):
+            for other in WORDS[m[0]]:
+                yield "another word", m.start(), m.end(), other
 
 
-def made(text, spans, makers):
+def made(text, spans, makers, headed=None):
     found = []
     for start, end in spans:
         part = text[start:end]
         hidden = re.sub(r"//.*|--.*", lambda m: " " * len(m[0]), part)
-        for make in makers:
-            for kind, begin, stop, new in make(hidden):
-                if part[begin:stop] != new and part[begin:stop] == hidden[begin:stop]:
-                    found.append(Edit(kind, start + begin, start + stop, part[begin:stop], new))
+        edits = [edit for make in makers for edit in make(hidden)]
+        if headed:
+            edits += headed(hidden, head_of(text, start))
+        for kind, begin, stop, new in edits:
+            if part[begin:stop] != new and part[begin:stop] == hidden[begin:stop]:
+                found.append(Edit(kind, start + begin, start + stop, part[begin:stop], new))
     return found
+
+
+def head_of(text, start):
+    """What stands before a body: a function from its name on; a definition's signature, and its equation up to the sign."""
+    function = text.rfind("\nfn ", 0, start), text.rfind(" fn ", 0, start)
+    if max(function) >= 0:
+        return text[max(function):start]
+    begin = text.rfind("\n\n", 0, start) + 2
+    signature = re.search(r"^(?:abbrev|unfoldable).*$", text[begin:start], re.M)
+    return (signature[0] if signature else "") + "\n" + text[text.rfind("\n", 0, start) + 1:start].removesuffix(" =")
+
+
+def clauses(text, spans):
+    """The right sides of two equations that follow each other, exchanged."""
+    spans = [(start, start + len(text[start:end].rstrip())) for start, end in spans]
+    for one, two in zip(spans, spans[1:]):
+        if text[slice(*one)] != text[slice(*two)]:
+            yield Edit("clauses exchanged", one[0], two[1], text[one[0]:two[1]], exchanged(text, one, two))
 
 
 def spread(found):
@@ -147,5 +225,6 @@ def spread(found):
 def edits(text, spans, code):
     """Every edit of a unit, in the order in which they are tried."""
     if code:
-        return spread(made(text, spans, [of_code, of_words]))
-    return spread(made(text, spans, [of_definitions, of_words])) + spread(made(text, spans, [of_any_application]))
+        return spread(made(text, spans, [of_code, of_words])) + spread(made(text, spans, [], of_parameters))
+    return (spread(made(text, spans, [of_definitions, of_words])) + list(clauses(text, spans)) + spread(made(text, spans, [], of_signature))
+            + spread(made(text, spans, [of_any_application])))

@@ -50,7 +50,7 @@ met =
     ∷ not (unread (stateNow []) (status ∷ [])) ∷ not (unread (stateNow []) (reset ∷ []))
     ∷ not (uncleared historyNow (stateNow []) acknowledged) ∷ not (uncleared historyNow (stateNow []) (reset ∷ []))
     ∷ wellFormed (madeOf (pos 76) .state) ∷ wellFormed (madeOf (pos 77) .state)
-    ∷ not (eqb (answerFor (stateNow []) start .code) 0) ∷ []
+    ∷ eqb (answerFor (stateNow []) start .code) 4 ∷ []
 
 abbrev pub PremisesMet : Type 0
 PremisesMet = any (map not met) ≡ false

@@ -28,13 +28,6 @@ alertName = 97 ∷ 108 ∷ 101 ∷ 114 ∷ 116 ∷ 61 ∷ []
 abbrev pub thermName : List ℕ
 thermName = 116 ∷ 104 ∷ 101 ∷ 114 ∷ 109 ∷ 61 ∷ []
 
--- "A record is four lines, in this order"; "An answer is four lines"
-abbrev pub recordNames : List (List ℕ)
-recordNames = kindName ∷ aName ∷ bName ∷ cName ∷ []
-
-abbrev pub answerNames : List (List ℕ)
-answerNames = codeName ∷ replyName ∷ alertName ∷ thermName ∷ []
-
 -- "end="
 abbrev pub endName : List ℕ
 endName = 101 ∷ 110 ∷ 100 ∷ 61 ∷ []
