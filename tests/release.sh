@@ -6,11 +6,12 @@ cd "$(dirname "$0")/.."
 said=()
 # Runs one part, shows what it prints, and keeps its last line.
 part() {
-    local out
+    local out good=true
     out=$(mktemp)
-    "$@" 2>&1 | tee "$out"
+    "$@" 2>&1 | tee "$out" || good=false
     said+=("$*: $(tail -n 1 "$out")")
     rm -f "$out"
+    $good || { echo "FAILED: $*"; exit 1; }
 }
 
 part .ci/run

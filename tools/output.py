@@ -5,7 +5,7 @@ import tempfile
 
 
 def put(*files):
-    """Writes files, each a path and its bytes: all of them whole or none, so that whoever reads one never sees a part."""
+    """Writes files, each a path and its bytes, each whole, and none unless all could be made beside their places."""
     parts = []
     try:
         for path, data in files:

@@ -27,7 +27,7 @@ fi
 
 x86_tool() {
     local program=target/tools/$1 part
-    if [[ ! -e $program || -n $(find "tools/$1.c" tools/names.txt include "$x86_library" -newer "$program" -print -quit) ]]; then
+    if [[ ! -e $program || -n $(find "tools/$1.c" tools/names.txt tools/x86.sh include "$x86_library" -newer "$program" -print -quit) ]]; then
         mkdir -p target/tools
         part=$(mktemp -d "$program.XXXXXX")    # two runs at once build aside and each moves a whole program in
         # the names of a record's and an answer's lines, from the one table

@@ -12,7 +12,7 @@ Edit = namedtuple("Edit", "kind start end old new")
 SWAPPED = [
     ("true", "false"), ("ltb", "leb"), ("high", "low"), ("High", "Low"), ("highfine", "lowfine"), ("HighFine", "LowFine"), ("found", "flag"), ("Local", "Remote"),
     ("local", "remote"), ("Above", "Below"), ("Short", "Never"), ("alert", "therm"), ("used", "written"), ("config", "rate"), ("a", "b"),
-    ("take", "drop"), ("Maker", "Revision"), ("Start", "Respond"), ("min", "max"),
+    ("take", "drop"), ("Maker", "Revision"), ("Start", "Respond"),
     ("therm", "high"), ("Therm", "High"), ("offset", "offsetfine"),
 ]
 WORDS = {}
@@ -20,10 +20,10 @@ for one, two in SWAPPED:
     WORDS.setdefault(one, []).append(two)
     WORDS.setdefault(two, []).append(one)
 SIGNS = {
-    "<": "<=", "<=": "<", ">": ">=", ">=": ">", "==": "!=", "!=": "==", "&&": "||", "||": "&&", "&": "|", "|": "&", "+": "-", "-": "+",
-    "*": "+", "/": "*", "%": "/", "+=": "-=", "<<": ">>", ">>": "<<",
+    "<": "<=", "<=": "<", "==": "!=", "!=": "==", "&&": "||", "||": "&&", "&": "|", "|": "&", "+": "-", "-": "+",
+    "*": "+", "/": "*", "%": "/", "+=": "-=",
 }
-SIGN = re.compile(r"(?<= )(<=|>=|==|!=|&&|\|\||\+=|<<|>>|[<>&|+*/%-])(?= )")
+SIGN = re.compile(r"(?<= )(<=|==|!=|&&|\|\||\+=|[<&|+*/%-])(?= )")
 NUMBER = re.compile(r"(?<![\w.·])(0x[0-9a-f]+|[0-9]+)(?![\w.])")
 WORD = re.compile(r"(?<![\w·-])[A-Za-z]\w*(?![\w·-])")
 ATOM = re.compile(r"\s*([\w·']+)")

@@ -33,7 +33,7 @@ from units import units    # noqa: E402
 PLACE = ROOT / "target" / "mutation"
 RESULTS = PLACE / "results"
 EXPLAINED = Path(__file__).with_name("explained.txt")
-ATTEMPTS = 12    # edits of one unit that may turn out to be no trial, in one round
+ATTEMPTS = 12    # edits of one unit that may turn out to be no trial, for each round
 REFUSED, SURVIVED, UNTRIED = "refused", "survived", "not tried"
 
 
@@ -58,7 +58,7 @@ def above(crate, deps):
 
 class Reach:
     """Which crates could notice that a definition says something else: those that import it, or what is said with it, and so on; and where a
-    function's contract does, every crate above it."""
+    function's contract does, every crate above it. A module taken whole (`use .. as`) is not followed: what is taken so has other ways here."""
 
     USE = re.compile(r"^(?:ghost )?use (\S+?)\.\{([^}]*)\}", re.M)
     NAME = re.compile(r"^ {0,2}(?:(?:abbrev|unfoldable|pub|data|record) )*([^\s(){},;.:]+)(?= :| \()", re.M)
@@ -135,7 +135,7 @@ class Worker:
             result, log = (self.root / "target" / "log" / f"{name}.{end}" for end in ("res", "out"))
             if result.exists() and result.read_text().strip() != "proved":
                 return False, name, said if "is not what its file" in said else log.read_text()
-        sys.exit(f"the toolchain failed: {said}")
+        raise RuntimeError(f"the toolchain failed: {said}")
 
     def verdict(self, unit, edit):
         """What became of an edit, the crate where that was seen, and the first error or why it was no trial."""
@@ -218,7 +218,13 @@ def candidates(crates):
 def run(todo, rounds, jobs, deps, results):
     """One trial of each unit, then a second of each, and so on."""
     queue = [(number, unit, found) for number in range(1, rounds + 1) for unit, found in todo]
-    lock, at, reach = threading.Lock(), iter(enumerate(queue, 1)), Reach(deps)
+    lock, at, reach, broken = threading.Lock(), iter(enumerate(queue, 1)), Reach(deps), []
+
+    def guarded(number):
+        try:
+            work(number)
+        except BaseException as error:    # a thread's own end would be silent
+            broken.append(error)
 
     def work(number):
         worker = Worker(number, deps, reach)
@@ -227,30 +233,35 @@ def run(todo, rounds, jobs, deps, results):
                 place, (wanted, unit, found) = next(at, (None, (None, None, None)))
             if place is None:
                 return
-            attempts = 0
             for key, edit in found:
                 tried = [results.lines[k]["verdict"] for k, _ in found if k in results.lines]
-                if len([v for v in tried if v != UNTRIED]) >= wanted or attempts >= ATTEMPTS:
+                if broken or len([v for v in tried if v != UNTRIED]) >= wanted or tried.count(UNTRIED) >= ATTEMPTS * wanted:
                     break
                 if key in results.lines:
                     continue
-                attempts += 1
                 began = time.time()
                 verdict, why, crate = worker.verdict(unit, edit)
                 results.add({"key": key, "whole": results.whole, "unit": f"{unit.path}:{unit.name}", "crate": unit.crate, "kind": edit.kind, "old": edit.old,
                              "new": edit.new, "verdict": verdict, "at": crate, "why": why, "seconds": round(time.time() - began, 1)})
                 print(f"{place}/{len(queue)} {unit.path}:{unit.name}: {edit.kind}: {verdict} {crate if verdict == REFUSED else ''}", flush=True)
 
-    threads = [threading.Thread(target=work, args=(number,)) for number in range(jobs)]
+    threads = [threading.Thread(target=guarded, args=(number,)) for number in range(jobs)]
     for thread in threads:
         thread.start()
     for thread in threads:
         thread.join()
+    if broken:
+        sys.exit(f"broken off: {broken[0]!r}")
 
 
-def shape(entry):
-    """An edit as explained.txt has it."""
-    return f"{entry['unit']} | {' '.join(entry['old'].split())} -> {' '.join(entry['new'].split())}"
+def shapes(unit, found):
+    """Each edit as explained.txt has it, by its key: unit, words, and which of the unit's places with these words it is."""
+    told, seen = {}, Counter()
+    for key, edit in sorted(found, key=lambda one: one[1].start):
+        words = f"{unit.path}:{unit.name} | {' '.join(edit.old.split())} -> {' '.join(edit.new.split())}"
+        seen[words] += 1
+        told[key] = f"{words} | {seen[words]}"
+    return told
 
 
 def explained():
@@ -263,14 +274,15 @@ def report(todo, results):
     """The figures, as a table for docs/MUTATION.md, then every survivor and every unit without a trial. Gives the counts and the survivors without an explanation."""
     rows, survivors, bare = {}, [], []
     for unit, found in todo:
-        sort = "functions" if unit.path.suffix == ".rt" else "definitions"
+        sort = "functions" if unit.path.suffix == ".rt" else "claims" if unit.claim else "definitions"
+        told = shapes(unit, found)
         row = rows.setdefault((unit.crate, sort), Counter())
         row["units"] += 1
         tried = [results.lines[k] for k, _ in found if k in results.lines]
         for entry in tried:
             row[entry["verdict"]] += 1
             row["own"] += entry["verdict"] == REFUSED and entry["at"] == unit.crate
-            survivors += [entry] * (entry["verdict"] == SURVIVED)
+            survivors += [told[entry["key"]]] * (entry["verdict"] == SURVIVED)
         if all(entry["verdict"] == UNTRIED for entry in tried):
             bare.append(f"{unit.path}:{unit.name}")
         else:
@@ -283,11 +295,11 @@ def report(todo, results):
         print(f"| {crate} | {sort} | {row['units']} | {row['reached']} | {row['own']} | {row[REFUSED] - row['own']} | {row[SURVIVED]} | {row[UNTRIED]} |")
     print(f"| all | | {total['units']} | {total['reached']} | {total['own']} | {total[REFUSED] - total['own']} | {total[SURVIVED]} | {total[UNTRIED]} |")
     why = explained()
-    for entry in survivors:
-        print(f"survived: {shape(entry)} | {why.get(shape(entry), 'NOT EXPLAINED')}")
+    for shape in survivors:
+        print(f"survived: {shape} | {why.get(shape, 'NOT EXPLAINED')}")
     for name in bare:
         print(f"no trial: {name}")
-    return total, [entry for entry in survivors if shape(entry) not in why]
+    return total, [shape for shape in survivors if shape not in why]
 
 
 def main():

@@ -1,13 +1,12 @@
 """Where an edit may stand: the body of each function of the code and the right sides of each definition."""
 import re
 from collections import namedtuple
-from pathlib import Path
 
 # `path` is from the repository's root; `spans` are the places in the file's text that may be edited.
-Unit = namedtuple("Unit", "crate path name spans")
+Unit = namedtuple("Unit", "crate path name spans claim")    # a claim is a definition that is a statement
 
 FUNCTION = re.compile(r"^(?:#\[\w+\] )?(?:pub )?(?:extern \"C\" )?fn (\w+)", re.M)
-DEFINITION = re.compile(r"^(?:abbrev|unfoldable)(?: pub)? (\S+) :", re.M)
+DEFINITION = re.compile(r"^(?:abbrev|unfoldable)(?: pub)? (\S+) : ?(.*)", re.M)
 
 
 def functions(text):
@@ -16,7 +15,7 @@ def functions(text):
         begin = re.compile(r"^\{$|\) (?:-> \S+ )?\{$", re.M).search(text, head.start())
         close = re.compile(r"^\}$", re.M).search(text, head.start())
         if begin and close and begin.end() < close.start():
-            yield head[1], [(begin.end(), close.start())]
+            yield head[1], [(begin.end(), close.start())], False
 
 
 def definitions(text):
@@ -30,7 +29,7 @@ def definitions(text):
             sign = text.find(" =", start, end)
             if sign >= 0:
                 spans.append((sign + 2, end))
-        yield head[1], spans
+        yield head[1], spans, head[2].endswith("Type 0")
 
 
 def units(root, crates):
@@ -38,5 +37,5 @@ def units(root, crates):
     for crate in crates:
         for folder, pattern, parts in [("specs", "*.antt", definitions), ("src", "*.rt", functions)]:
             for path in sorted((root / "crates" / crate / folder).glob(pattern)):
-                for name, spans in parts(path.read_text()):
-                    yield Unit(crate, path.relative_to(root), name, spans)
+                for name, spans, claim in parts(path.read_text()):
+                    yield Unit(crate, path.relative_to(root), name, spans, claim)

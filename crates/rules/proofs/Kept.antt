@@ -27,7 +27,7 @@ use Rattle.rules.specs.Comparisons.{comparedOf, recomparedOf}
 use Rattle.rules.specs.Configuration.{standby}
 use Rattle.rules.specs.Conversion.{converted, convertedOf}
 use Rattle.rules.specs.Keeps.{trimOf}
-use Rattle.rules.specs.Kept.{GivenKept, IllFormedRefused, PointerKept, RefusedKept, RegistersKept, ValuesKept, bytePlace, bytesAfter, bytesOf, bytesWritten, measures, pointerAfter, putAt, valuesOf}
+use Rattle.rules.specs.Kept.{GivenKept, IllFormedRefused, PointerKept, RefusedKept, RegistersKept, ValuesKept, bytePlace, bytesAfter, bytesOf, bytesWritten, mayMeasure, pointerAfter, putAt, valuesOf}
 use Rattle.rules.specs.Lines.{alertLow}
 use Rattle.rules.specs.Registers.{afterRead, readAtPointer, withStored}
 use Rattle.rules.specs.Setters.{withBusy, withPointer}
@@ -136,7 +136,7 @@ record After (s : State) (k : Checked) (t : State) : Type 0 where
   given : t .given ≡ s .given
   bytes : bytesOf t ≡ bytesAfter s k
   pointer : t .pointer ≡ pointerAfter s k
-  values : measures s k ≡ false → valuesOf t ≡ valuesOf s
+  values : mayMeasure s k ≡ false → valuesOf t ≡ valuesOf s
 
 -- an event for this address or another, whose bytes would be xs and whose pointer n
 record Bus (s : State) (xs : List ℕ) (n : ℕ) (own : Bool) (t : State) : Type 0 where

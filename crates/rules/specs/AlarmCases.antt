@@ -15,7 +15,7 @@ use Rattle.rules.specs.Alarm.Flag.{Limit, OpenDiode}
 use Rattle.rules.specs.Alarm.Side.{Above}
 use Rattle.rules.specs.Channels.{any}
 use Rattle.rules.specs.Configuration.{standby}
-use Rattle.rules.specs.Kept.{measures}
+use Rattle.rules.specs.Kept.{mayMeasure}
 use Rattle.rules.specs.PowerOn.{madeOf}
 use Rattle.rules.specs.Trial.{Four, convert, end, read, receive, reset, respond, send, start, status, write}
 use Rattle.rules.specs.WellFormed.{wellFormed}
@@ -36,7 +36,7 @@ stateNow es = stateThen (pos 76) before lowered es
 abbrev historyNow : History
 historyNow = historyThen (pos 76) before lowered []
 
--- after a status read and one more response no flag stands, and the latch was cleared
+-- the limit raised, a status read, a response: no flag stands, and the latch is cleared
 abbrev acknowledged : List Four
 acknowledged = write 0x0d 85 ∷ status ∷ respond ∷ []
 
@@ -49,7 +49,8 @@ met =
     ∷ isReset (formOf reset) ∷ not (stands OpenDiode (historyOf (pos 76) before))
     ∷ not (unread (stateNow []) (status ∷ [])) ∷ not (unread (stateNow []) (reset ∷ []))
     ∷ not (uncleared historyNow (stateNow []) acknowledged) ∷ not (uncleared historyNow (stateNow []) (reset ∷ []))
-    ∷ wellFormed (madeOf (pos 76) .state) ∷ wellFormed (madeOf (pos 77) .state)
+    ∷ eqb (madeOf (pos 76) .code) 0 ∷ eqb (madeOf (pos 77) .code) 0 ∷ wellFormed (madeOf (pos 76) .state)
+    ∷ wellFormed (madeOf (pos 77) .state) ∷ not (wellFormed (madeOf (pos 78) .state)) ∷ lineFree (viewOf (stateNow []))
     ∷ eqb (answerFor (stateNow []) start .code) 4 ∷ []
 
 abbrev pub PremisesMet : Type 0
@@ -61,7 +62,7 @@ WriteMet = formOf lowered ≡ Good (Write 76 0x0d 40)
 -- only the end of a conversion that runs and a reset may change a value; here none runs
 unfoldable pub quiet : List Bool
 quiet =
-    map (λ (e : Four). measures (stateNow []) (formOf e))
+    map (λ (e : Four). mayMeasure (stateNow []) (formOf e))
     (send 0x05 ∷ write 0x05 1 ∷ read 0x05 ∷ receive ∷ respond ∷ start ∷ end (pos 20) (pos 200) 0 ∷ write 0x05 256 ∷ [])
 
 abbrev pub QuietMet : Type 0

@@ -85,19 +85,19 @@ abbrev pub valuesOf : State → List ℕ
 valuesOf s = s .local .value ∷ s .remote .value ∷ []
 
 -- a conversion that runs ends, or the chip is powered on
-abbrev pub measures : State → Checked → Bool
-measures s (Good Reset) = true
-measures s (Good (Send a n)) = false
-measures s (Good (Write a n b)) = false
-measures s (Good (Read a n)) = false
-measures s (Good (Receive a)) = false
-measures s (Good Respond) = false
-measures s (Good Start) = false
-measures s (Good (End l r broken)) = s .busy
-measures s (Bad code) = false
+abbrev pub mayMeasure : State → Checked → Bool
+mayMeasure s (Good Reset) = true
+mayMeasure s (Good (Send a n)) = false
+mayMeasure s (Good (Write a n b)) = false
+mayMeasure s (Good (Read a n)) = false
+mayMeasure s (Good (Receive a)) = false
+mayMeasure s (Good Respond) = false
+mayMeasure s (Good Start) = false
+mayMeasure s (Good (End l r broken)) = s .busy
+mayMeasure s (Bad code) = false
 
 abbrev pub ValuesKept : Type 0
-ValuesKept = (s : State) (e : Four) → measures s (formOf e) ≡ false → valuesOf (answerFor s e .state) ≡ valuesOf s
+ValuesKept = (s : State) (e : Four) → mayMeasure s (formOf e) ≡ false → valuesOf (answerFor s e .state) ≡ valuesOf s
 
 -- "Kinds 1, 2, 3 set the pointer to the command"; power-on, "pointer 00"
 abbrev pub pointerAfter : State → Checked → ℕ
