@@ -241,7 +241,7 @@ def devices(room):
 
 def at_terminal(words, slowed=False, **more):
     """Runs a command whose standard error is a terminal, and gives exit code, standard output and what the terminal saw. Slowed, it is stopped
-    for most of the time, as on a machine that is some twenty times slower: the library needs less than half a second for any trace.
+    for most of the time until enough was told, as on a far slower machine: the library needs less than half a second for any trace.
     """
     ours, theirs = pty.openpty()
     os.set_blocking(ours, False)
@@ -252,9 +252,9 @@ def at_terminal(words, slowed=False, **more):
         over = False
         while not over:
             over = program.poll() is not None
-            if slowed and not over:
+            if slowed and not over and len(set(re.findall(rb"\d+ %", said))) < 4:    # until enough was told
                 program.send_signal(signal.SIGSTOP)
-                time.sleep(0.02)
+                time.sleep(0.05)
                 program.send_signal(signal.SIGCONT)
             time.sleep(0.001)
             try:

@@ -27,20 +27,27 @@ def exact(rest):
     """Whether a function's contracts leave one answer: a record of equations, or an equation for the result and for each lent buffer."""
     signature, *clauses = re.split(r"^\s+(?=requires\b|ensures\b)", rest, flags=re.M)
     said = [m[1] for text in clauses if (m := re.match(r"ensures \{ λ r\. ⌜ (.*)", text, re.S)) and not LOOSENS.search(text)]
-    lent = set(re.findall(r"(\w+): &(?:'\w+ )?mut\b", signature))
-    if lent and any(text.split()[0] in RECORDS for text in said):
+    lent = re.findall(r"(\w+): &(?:'\w+ )?mut\b", signature)
+    if lent and any(text.split()[0] in RECORDS and covers(text, lent) for text in said):
         return True
+    lent = set(lent)
     result = any(re.match(r"r ≡ (?!.*\br\b)", text, re.S) for text in said)
     given = {m[1] for text in said if (m := re.match(r"now \((\w+) \.exit\) ≡ (?!.*(?:\br\b|\.exit))", text, re.S))}
     return lent <= given and (result or bool(lent) and "->" not in signature)
 
 
-def loose(source, where, allowed):
+def covers(text, lent):
+    """Whether a record's arguments have each lent buffer at entry and after that at exit, once, and the exits in the order of the parameters."""
+    exits = re.findall(r"\(now \((\w+) \.exit\)\)", text)
+    entries = re.findall(r"\(now \((\w+) \.entry\)\)", text)
+    places = [(text.find(f"(now ({name} .entry))"), text.find(f"(now ({name} .exit))")) for name in lent]
+    return exits == lent and all(entries.count(name) == 1 for name in lent) and all(0 < entry < at for entry, at in places)
+
+
+def loose(source, where):
     """The public functions of a source that ask something of their caller, or do not say what their result is."""
     found = []
     for name, rest in PUBLIC.findall(source):
-        if f"{where}::{name}" in allowed:
-            continue
         if re.search(r"^\s+requires\b", rest, re.M):
             found.append(f"{where}::{name} has a requires")
         if not re.search(r"^\s+ensures\b", rest, re.M):
@@ -63,9 +70,15 @@ CONTRACTS = [
     ("pub extern \"C\" fn f(x: u8) -> u8", [], False),
     ("#[no_mangle] pub extern \"C\" fn f(x: u8) -> u8", [], False),
     ("#[no_mangle] pub extern \"C\" fn f(x: u8) -> u8", ["r ≡ half x"], True),
-    ("pub fn f(x: u8, out: &mut [u8]) -> u8", ["Put x r (now (out .exit))"], True),
-    ("pub fn f(x: u8, out: &mut [u8]) -> u8", ["Other x r (now (out .exit))"], False),
-    ("pub fn f(x: u8, out: &mut [u8]) -> u8", ["Put x r (now (out .exit)) → Put x r (now (out .exit))"], False),
+    ("pub fn f(x: u8, out: &mut [u8]) -> u8", ["Put x (now (out .entry)) (now (out .exit)) r"], True),
+    ("pub fn f(x: u8, out: &mut [u8]) -> u8", ["Put x (now (out .exit)) (now (out .exit)) r"], False),
+    ("pub fn f(x: u8, out: &mut [u8]) -> u8", ["Put x (now (out .exit)) (now (out .entry)) r"], False),
+    ("pub fn f(x: u8, out: &mut [u8]) -> u8", ["Put x r (now (out .exit))"], False),
+    ("pub fn f(out: &mut [u8], more: &mut [u8]) -> u8", ["Put (now (out .entry)) (now (out .exit)) r"], False),
+    ("pub fn f(out: &mut [u8], more: &mut [u8]) -> u8", ["Replayed (g (now (out .entry)) (now (more .entry))) r (now (out .exit)) (now (more .exit))"], True),
+    ("pub fn f(out: &mut [u8], more: &mut [u8]) -> u8", ["Replayed (g (now (out .entry)) (now (more .entry))) r (now (more .exit)) (now (out .exit))"], False),
+    ("pub fn f(x: u8, out: &mut [u8]) -> u8", ["Other x (now (out .entry)) (now (out .exit)) r"], False),
+    ("pub fn f(x: u8, out: &mut [u8]) -> u8", ["Put x (now (out .entry)) (now (out .exit)) r → Put x r (now (out .exit))"], False),
     ("pub fn f(x: u8) -> u8", ["Put x r"], False),
     ("pub fn f(x: u8, out: &mut [u8]) -> u8", ["r ≡ half x"], False),
     ("pub fn f(x: u8, out: &mut [u8]) -> u8", ["now (out .exit) ≡ bytes x"], False),
@@ -78,24 +91,23 @@ CONTRACTS = [
 
 def contracts():
     asks = "pub fn f(x: u8) -> u8\n    requires { a }\n    ensures { λ r. ⌜ r ≡ x ⌝ }\n{\n    x\n}\n"
-    check("a public requires is found", [] if loose(asks, "m", set()) == ["m::f has a requires"] else ["it is not"])
-    check("a missing ensures is found", [] if loose("pub fn f() {\n}\n", "m", set()) == ["m::f has no ensures"] else ["it is not"])
+    check("a public requires is found", [] if loose(asks, "m") == ["m::f has a requires"] else ["it is not"])
+    check("a missing ensures is found", [] if loose("pub fn f() {\n}\n", "m") == ["m::f has no ensures"] else ["it is not"])
     vague = "pub fn f(x: u8) -> u8\n    ensures { λ r. ⌜ r ≤ x ⌝ }\n{\n    x\n}\n"
-    check("an ensures that leaves two answers is found", [] if len(loose(vague, "m", set())) == 1 else ["it is not"])
+    check("an ensures that leaves two answers is found", [] if len(loose(vague, "m")) == 1 else ["it is not"])
     for good, name in (False, "empty and partial contracts are found, behind an attribute too"), (True, "exact contracts are accepted"):
         wrong = []
         for head, said in [(head, said) for head, said, leaves_one in CONTRACTS if leaves_one == good]:
             source = f"{head}\n" + "".join(f"    ensures {{ λ r. ⌜ {text} ⌝ }}\n" for text in said) + "{\n}\n"
-            if len(PUBLIC.findall(source)) != 1 or len(loose(source, "m", set())) != (0 if good else 1):
+            if len(PUBLIC.findall(source)) != 1 or len(loose(source, "m")) != (0 if good else 1):
                 wrong.append(f"{head}: {'; '.join(said)}")
         check(name, wrong)
-    allowed = set(re.findall(r"^\| `([\w:]+)` \|", (ROOT / "docs" / "PUBLIC.md").read_text(), re.M))
     found, seen, there = [], 0, 0
     for path in sorted(ROOT.glob("crates/*/src/**/*.rt")):
         text = path.read_text()
         seen += len(PUBLIC.findall(text))
         there += len(re.findall(r"^(?! *//).*\bpub\b.*\bfn \w", text, re.M))
-        found += loose(text, f"{path.parts[-3]}::{path.stem}", allowed)
+        found += loose(text, f"{path.parts[-3]}::{path.stem}")
     if seen != there:
         found.append(f"{there} public functions, {seen} read")
     check(f"{seen} public functions ask nothing and say what their result is", found)
@@ -154,22 +166,23 @@ def documents():
 # ---- the tools' table
 
 
-def commands(rules, names):
-    """The commands that the rules' tables and tools/names.txt do not both have."""
+def commands(rows, tables, names):
+    """The commands that the rules' rows and tables and tools/names.txt do not both have."""
     found = []
-    for sort in ("read", "write"):
-        table = re.search(rf"^{sort}Table =\n(.*?)\[\]", rules, re.M | re.S)
-        have = {int(number, 16) for number in re.findall(r"\((0x\w+), ", table[1])}
+    for sort, place in ("read", 1), ("write", 2):
+        rest = re.search(rf"^{sort}Only =(.*?)\[\]", tables, re.M | re.S)
+        have = {int(m[place], 16) for m in re.finditer(r"^rowOf \w+ = row (0x\w+) (0x\w+) ", rows, re.M)}
+        have |= {int(number, 16) for number in re.findall(r"\((0x\w+), ", rest[1])}
         named = {int(number, 16) for number in re.findall(rf"^register {sort} (0x\w+) ", names, re.M)}
         found += [f"{sort} {number:02x}: {'no name' if number in have else 'no register'}" for number in sorted(have ^ named)]
     return found
 
 
 def names():
-    rules = (ROOT / "crates" / "rules" / "specs" / "Commands.antt").read_text()
+    rows, tables = [(ROOT / "crates" / "rules" / "specs" / name).read_text() for name in ("Rows.antt", "Commands.antt")]
     table = (ROOT / "tools" / "names.txt").read_text()
-    check("each register that a command names has its name in the tools' table", commands(rules, table))
-    wrong = commands(rules, table.replace("register read 0x00", "register read 0x09"))
+    check("each register that a command names has its name in the tools' table", commands(rows, tables, table))
+    wrong = commands(rows, tables, table.replace("register read 0x00", "register read 0x09"))
     check("a register without a name and a name without a register are found", differs(wrong, ["read 00: no name", "read 09: no register"]))
 
 
@@ -225,10 +238,46 @@ def sentences():
     check(f"{len(edits)} edits of the rules each stand beside a sentence or in docs/ALARMS.md", unnamed(edits, rules, alarms))
 
 
+# ---- claims and tables that could be emptied
+
+# Types of the specs that are no claims.
+TYPES = {"History"}
+
+
+def unproved(specs, proofs):
+    """The claims of a crate's specs that no proof has by its type."""
+    claims = re.findall(r"^abbrev pub ([A-Z]\w*) : Type 0$", specs, re.M)
+    return [name for name in claims if name not in TYPES and not re.search(rf"^pub [^\s:]+ : {name}$", proofs, re.M)]
+
+
+def bench(text):
+    """The bench cases K1 to K12 that the table does not have, each with rows behind its mark."""
+    rows = re.search(r"^benchRows =\n(.*?)^    \[\]", text, re.M | re.S)
+    parts = re.split(r"^ *-- (K\d+)\b.*$", rows[1] if rows else "", flags=re.M)
+    have = {name for name, part in zip(parts[1::2], parts[2::2]) if re.search(r"^ *row ", part, re.M)}
+    return [f"K{n}" for n in range(1, 13) if f"K{n}" not in have]
+
+
+def claims():
+    check("a claim without its proof is found", differs(unproved("abbrev pub A : Type 0\nabbrev pub B : Type 0\n", "pub a : A\n"), ["B"]))
+    found, seen = [], 0
+    for crate in sorted((ROOT / "crates").iterdir()):
+        specs, proofs = ["\n".join(path.read_text() for path in sorted(crate.glob(f"{sort}/**/*.antt"))) for sort in ("specs", "proofs")]
+        seen += len(re.findall(r"^abbrev pub [A-Z]\w* : Type 0$", specs, re.M))
+        found += [f"{crate.name}: {name}" for name in unproved(specs, proofs)]
+    check(f"{seen} claims and types of the specs: each claim has its proof, by its type", found)
+    table = (ROOT / "crates" / "rules" / "specs" / "BenchCases.antt").read_text()
+    check("the table has the bench cases K1 to K12", bench(table))
+    check("a bench case without a row is found", differs(bench(re.sub(r"(-- K7\b.*\n)(?: *row .*\n)+", r"\1", table)), ["K7"]))
+
+
 # ---- must-fail edits
 
-# Which file must refuse an edit of the rules: a table, or the alarm theorem; of these the theorem itself, of those what an event leaves alone.
-TABLES, THEOREM, KEPT = "proofs/Tables.antt", "proofs/Alarm.antt", "proofs/Kept.antt"
+# Which files must refuse an edit of the rules: the tables and what is said in other words, or what is shown of an event and of every sequence; of these the first list
+# by the laws of an event or the theorem, the second by what is seen of a chip.
+TABLES = ["proofs/Tables.antt", "proofs/Meant.antt", "proofs/Forms.antt", "proofs/Answered.antt", "proofs/Therm.antt"]
+THEOREM = ["proofs/Steps.antt", "proofs/Status.antt", "proofs/Alarm.antt", "proofs/Commands.antt"]
+SEEN = ["proofs/Steps.antt", "proofs/Kept.antt"]
 ALARMS = [
     "read_clears_every_flag", "read_clears_no_flag", "compares_outside_standby", "no_standby_comparison",
     "compares_what_was_never_converted", "read_clears_the_latch", "response_always_clears", "open_diode_waits_for_the_count",
@@ -244,14 +293,14 @@ LEFT = [
 def places(crate, name):
     if crate != "rules":
         return []
-    return [THEOREM] if name in ALARMS else [KEPT] if name in LEFT else [TABLES, THEOREM]
+    return THEOREM if name in ALARMS else SEEN if name in LEFT else TABLES + THEOREM + SEEN
 
 
 def edits():
     check("an edit that only breaks the proof's form is found", [] if unfit("a.antt:1:1: error: it has no `Need-x` that", []) else ["it is not"])
     log = "a.antt:1:1: error: `rw`: no occurrence of the path's left endpoint"
     check("an edit refused at a rewrite counts", [unfit(log, [])] if unfit(log, []) else [])
-    check("an edit of the rules refused outside the tables and the theorem is found", [] if unfit(log, [TABLES, THEOREM]) else ["it is not"])
+    check("an edit of the rules refused outside the tables and the theorem is found", [] if unfit(log, TABLES + THEOREM) else ["it is not"])
     missing = [name for name in ALARMS + LEFT if not (ROOT / "crates" / "rules" / "must-fail" / f"{name}.edit").exists()]
     check("the edits that the alarm theorem and what an event leaves alone must refuse are there", missing)
     found, seen = [], 0
@@ -315,6 +364,7 @@ def main():
     documents()
     names()
     sentences()
+    claims()
     edits()
     trust()
     cases()

@@ -20,7 +20,7 @@ EVENT, FRESH, SET, CASE = range(4)
 KINDS = {word: kind.number for word, kind in Table().words.items()}
 FIELDS = {word: len(kind.fields) for word, kind in Table().words.items()} | {"raw": 4}
 STATE = ["address", "remotevalue", "localvalue", "runs", "config", "remotehighfine", "remotelowfine", "offsetfine",
-         "localhighfine", "locallowfine", "localoffset", "localoffsetfine", "localdiodefound", "localdiodeflag"]
+         "localdiodefound", "localdiodeflag"]
 
 
 def fail(number, text):

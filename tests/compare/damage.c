@@ -5,7 +5,7 @@
 
 const char *const damage_names[DAMAGES] = {
     "no damage", "byte changed", "byte removed", "byte inserted", "cut", "leading zero", "minus zero", "plus",
-    "sixth digit", "carriage return", "byte 0", "lines swapped", "final newline missing",
+    "sixth digit", "carriage return", "byte 0", "lines swapped", "final newline missing", "line lost", "line twice",
 };
 
 static size_t any_place(const trace *t, randoms *random)
@@ -110,6 +110,18 @@ static void swap_lines(trace *t, randoms *random)
     trace_insert(t, to - len, line, len);
 }
 
+/* Without one line, or with it once more behind itself. */
+static void lose_or_double_line(trace *t, randoms *random, int twice)
+{
+    size_t from = line_start(t, any_place(t, random)), len = line_end(t, from) + 1 - from;
+    uint8_t line[16];
+    memcpy(line, t->bytes + from, len);
+    if (twice)
+        trace_insert(t, from + len, line, len);
+    else
+        trace_remove(t, from, len);
+}
+
 void damage_do(damage kind, trace *t, randoms *random)
 {
     uint8_t byte = any_byte(random);
@@ -149,6 +161,12 @@ void damage_do(damage kind, trace *t, randoms *random)
         break;
     case DAMAGE_NO_NEWLINE:
         t->len--;
+        break;
+    case DAMAGE_LINE_LOST:
+        lose_or_double_line(t, random, 0);
+        break;
+    case DAMAGE_LINE_TWICE:
+        lose_or_double_line(t, random, 1);
         break;
     default:
         break;

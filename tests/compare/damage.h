@@ -19,6 +19,8 @@ typedef enum {
     DAMAGE_ZERO_BYTE,
     DAMAGE_SWAPPED,         /* a line and the next */
     DAMAGE_NO_NEWLINE,      /* the last one */
+    DAMAGE_LINE_LOST,       /* a whole line */
+    DAMAGE_LINE_TWICE,
     DAMAGES
 } damage;
 

@@ -4,6 +4,7 @@ use io::print_decimal;
 use libc::STDIN_FILENO;
 use libc::STDOUT_FILENO;
 use rules::answer::Answer;
+use rules::event::Numbers;
 use rules::state::State;
 ghost use Prim.Native.Nat.{_≤_};
 
@@ -75,32 +76,28 @@ fn spoilt(s: State, field: u32, n: u32) -> State {
     let set = b == 1;
     let mut t = s;
     match field {
-        0 => t.given.address = b,
-        1 => t.remote.value = w,
-        2 => t.local.value = w,
+        0 => t.address = b,
+        1 => t.remotevalue = w,
+        2 => t.localvalue = w,
         3 => t.runs = b,
         4 => t.config = b,
-        5 => t.remote.settings.highfine = b,
-        6 => t.remote.settings.lowfine = b,
-        7 => t.remote.settings.offsetfine = b,
-        8 => t.local.settings.highfine = b,
-        9 => t.local.settings.lowfine = b,
-        10 => t.local.settings.offset = b,
-        11 => t.local.settings.offsetfine = b,
-        12 => t.local.marks.diode.found = set,
-        _ => t.local.marks.diode.flag = set,
+        5 => t.remotehighfine = b,
+        6 => t.remotelowfine = b,
+        7 => t.remoteoffsetfine = b,
+        8 => t.localdiodefound = set,
+        _ => t.localdiodeflag = set,
     }
     t
 }
 
 fn event(s: State, line: &[u8]) -> State {
-    let answer = chip::step(
-        s,
-        number(line, 0),
-        number(line, 1),
-        number(line, 2),
-        number(line, 3),
-    );
+    let e = Numbers {
+        kind: number(line, 0),
+        a: number(line, 1),
+        b: number(line, 2),
+        c: number(line, 3),
+    };
+    let answer = chip::step(s, e);
     put_answer(answer);
     answer.state
 }

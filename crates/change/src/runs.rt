@@ -1,22 +1,25 @@
 // Document 01, Status, ALERT, THERM: the run count and the number it needs.
+use channel::compare::fault;
+use parts::channels::local;
+use parts::channels::remote;
+use rules::state::State;
 ghost use mathlib.Core.Path.{_≡_};
 ghost use mathlib.Core.Bool.{cond};
 ghost use Prim.Native.Nat.{_+_, _≤_};
-ghost use mathlib.Core.List.{[], _∷_};
-ghost use Rattle.rules.specs.Channels as channels;
+ghost use Rattle.rules.specs.Conversion.{anyFault};
 ghost use Rattle.rules.specs.Runs.{runsOf, neededOf, convertedSets};
 
-pub fn any(a: bool, b: bool) -> bool
-    ensures { λ r. ⌜ r ≡ channels.any (a ∷ b ∷ []) ⌝ }
+pub fn any_fault(s: State) -> bool
+    ensures { λ r. ⌜ r ≡ anyFault s ⌝ }
 {
-    a | b
+    fault(local(s)) | fault(remote(s))
 }
 
-// One more, held at 4, where either channel has a fault.
-pub fn counted(runs: u8, a: bool, b: bool) -> u8
-    ensures { λ r. ⌜ r ≡ runsOf runs (a ∷ b ∷ []) ⌝ }
+// One more, held at 4, where there was a fault.
+pub fn counted(runs: u8, fault: bool) -> u8
+    ensures { λ r. ⌜ r ≡ runsOf runs fault ⌝ }
 {
-    if any(a, b) {
+    if fault {
         if runs < 4 { runs + 1 } else { 4 }
     } else {
         0

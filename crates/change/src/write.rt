@@ -1,58 +1,32 @@
 // Document 01, Registers and Comparisons: what a write byte does.
-use crate::runs::any;
-use bank::store::with_stored;
+use crate::runs::any_fault;
+use channel::compare::recompared;
+use parts::channels::local;
+use parts::channels::remote;
+use parts::channels::with_local;
+use parts::channels::with_remote;
+use parts::limits::local_limits;
+use parts::limits::remote_limits;
+use parts::stored::with_stored;
 use registers::bits::is_standby;
 use registers::command::target;
-use registers::keep::trim;
-use rules::register::Channel;
+use registers::row::compares;
+use registers::row::trim;
 use rules::register::Register;
-use rules::register::Setting;
 use rules::register::Target;
 use rules::state::State;
-use sensor::compare::fault;
-use sensor::compare::recompared;
 ghost use mathlib.Core.Path.{_≡_};
 ghost use mathlib.Core.Bool.{_||_};
-ghost use Rattle.rules.specs.Setters.{withPointer};
-ghost use Rattle.rules.specs.Write.{settingCompares, writeCompares, bothRecompared, latchedByFaults, standbyCompared, comparedIf, stoppedIf, oneShot, writtenTo};
+ghost use Rattle.rules.specs.State.{withPointer};
+ghost use Rattle.rules.specs.Write.{allRecompared, latchedByFaults, standbyCompared, comparedIf, stoppedIf, oneShot, writtenTo};
 ghost use Rattle.rules.specs.Write as rule;
 
-fn setting_compares(q: Setting) -> bool
-    ensures { λ r. ⌜ r ≡ settingCompares q ⌝ }
+fn all_recompared(s: State) -> State
+    ensures { λ r. ⌜ r ≡ allRecompared s ⌝ }
 {
-    match q {
-        Setting::High => true,
-        Setting::HighFine => true,
-        Setting::Low => true,
-        Setting::LowFine => true,
-        Setting::Offset => false,
-        Setting::OffsetFine => false,
-        Setting::Therm => true,
-    }
-}
-
-fn write_compares(register: Register) -> bool
-    ensures { λ r. ⌜ r ≡ writeCompares register ⌝ }
-{
-    match register {
-        Register::Config => false,
-        Register::Rate => false,
-        Register::Hysteresis => true,
-        Register::Consecutive => false,
-        Register::Of(_, q) => setting_compares(q),
-    }
-}
-
-fn both_recompared(s: State) -> State
-    ensures { λ r. ⌜ r ≡ bothRecompared s ⌝ }
-{
-    let l = s.local;
-    let r = s.remote;
-    State {
-        local: recompared(Channel::Local, s.hysteresis, l),
-        remote: recompared(Channel::Remote, s.hysteresis, r),
-        ..s
-    }
+    let l = recompared(local_limits(s), local(s));
+    let r = recompared(remote_limits(s), remote(s));
+    with_remote(with_local(s, l), r)
 }
 
 // The latch does not wait for the run count.
@@ -65,11 +39,8 @@ fn latch_after(s: State, found: bool) -> bool
 fn latched_by_faults(s: State) -> State
     ensures { λ r. ⌜ r ≡ latchedByFaults s ⌝ }
 {
-    let l = s.local;
-    let r = s.remote;
-    let found = any(fault(l), fault(r));
     State {
-        latch: latch_after(s, found),
+        latch: latch_after(s, any_fault(s)),
         ..s
     }
 }
@@ -77,7 +48,7 @@ fn latched_by_faults(s: State) -> State
 fn standby_compared(s: State) -> State
     ensures { λ r. ⌜ r ≡ standbyCompared s ⌝ }
 {
-    latched_by_faults(both_recompared(s))
+    latched_by_faults(all_recompared(s))
 }
 
 fn compared_if(writes: bool, s: State) -> State
@@ -105,7 +76,7 @@ fn stored(s: State, register: Register, b: u8) -> State
     ensures { λ r. ⌜ r ≡ rule.stored s register b ⌝ }
 {
     compared_if(
-        write_compares(register),
+        compares(register),
         stopped_if(s.config, with_stored(s, register, trim(register, b))),
     )
 }

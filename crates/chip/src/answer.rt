@@ -1,9 +1,9 @@
 // Document 01, Answer codes: every answer reads its lines from the state that it gives.
-use bank::lines::alert_line;
-use bank::lines::therm_line;
 use rules::answer::Answer;
 use rules::answer::Done;
 use rules::state::State;
+use show::lines::alert_line;
+use show::lines::therm_line;
 ghost use mathlib.Core.Path.{_≡_};
 ghost use Rattle.rules.specs.Step as rule;
 ghost use Rattle.rules.specs.Step.{answerOf, onBus};
@@ -43,7 +43,7 @@ pub fn refused(code: u8, s: State) -> Answer
 pub fn on_bus(s: State, address: u8, d: Done) -> Answer
     ensures { λ r. ⌜ r ≡ onBus s address d ⌝ }
 {
-    if address == s.given.address {
+    if address == s.address {
         done(d)
     } else {
         refused(3, s)

@@ -4,30 +4,31 @@ use crate::answer::done;
 use crate::answer::on_bus;
 use crate::answer::refused;
 use crate::answer::silent;
-use bank::lines::alert_low;
-use bank::power::power_on;
-use bank::read::read_at_pointer;
-use bank::status::any_flag;
 use change::convert::converted;
 use change::write::pointed;
 use change::write::written;
+use power::power_on;
 use registers::bits::is_standby;
 use rules::answer::Answer;
 use rules::event::Checked;
 use rules::event::Event;
+use rules::event::Samples;
+use rules::state::Given;
 use rules::state::State;
+use show::lines::alert_low;
+use show::read::read_at_pointer;
+use show::status::any_flag;
 ghost use mathlib.Core.Path.{_≡_};
 ghost use Rattle.rules.specs.Step as rule;
 ghost use Rattle.rules.specs.Step.{respondOf, startOf, endOf, applyOf, checkedOf, responseOf};
 ghost use Rattle.rules.specs.PowerOn.{powerOn};
-ghost use Rattle.rules.specs.Setters.{withBusy};
+ghost use Rattle.rules.specs.State.{givenOf, withBusy};
 ghost use mathlib.Core.Bool.{true};
 
 fn reset(s: State) -> Answer
-    ensures { λ r. ⌜ r ≡ rule.done (rule.silent (powerOn (s .given))) ⌝ }
+    ensures { λ r. ⌜ r ≡ rule.done (rule.silent (powerOn (givenOf s))) ⌝ }
 {
-    let given = s.given;
-    done(silent(power_on(given)))
+    done(silent(power_on(Given { address: s.address })))
 }
 
 // A bus address has seven bits, so the byte is in range for any.
@@ -50,7 +51,7 @@ fn respond(s: State) -> Answer
     ensures { λ r. ⌜ r ≡ respondOf s ⌝ }
 {
     if alert_low(s) {
-        answer(0, response(s.given.address), responded(s))
+        answer(0, response(s.address), responded(s))
     } else {
         refused(3, s)
     }
@@ -72,11 +73,11 @@ fn start(s: State) -> Answer
     }
 }
 
-fn end(s: State, local: i16, remote: i16, broken: bool) -> Answer
-    ensures { λ r. ⌜ r ≡ endOf s local remote broken ⌝ }
+fn end(s: State, t: Samples) -> Answer
+    ensures { λ r. ⌜ r ≡ endOf s t ⌝ }
 {
     if s.busy {
-        done(silent(converted(s, local, remote, broken)))
+        done(silent(converted(s, t)))
     } else {
         refused(5, s)
     }
@@ -101,11 +102,7 @@ fn apply(s: State, e: Event) -> Answer
         Event::Receive { address } => on_bus(s, address, read_at_pointer(s)),
         Event::Respond => respond(s),
         Event::Start => start(s),
-        Event::End {
-            local,
-            remote,
-            broken,
-        } => end(s, local, remote, broken),
+        Event::End { samples } => end(s, samples),
     }
 }
 

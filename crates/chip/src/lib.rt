@@ -5,6 +5,7 @@ mod event;
 
 use rules::answer::Answer;
 use rules::answer::Made;
+use rules::event::Numbers;
 use rules::state::State;
 ghost use mathlib.Core.Path.{_≡_};
 ghost use Rattle.rules.specs.PowerOn.{madeOf};
@@ -16,15 +17,15 @@ ghost use Rattle.rules.specs.Step.{stepOf};
 pub fn fresh(address: i32) -> Made
     ensures { λ r. ⌜ r ≡ madeOf address ⌝ }
 {
-    bank::power::make(address)
+    power::make(address)
 }
 
-// One event, as four numbers: code, reply, both lines and the state after it.
-pub fn step(s: State, kind: i32, a: i32, b: i32, c: i32) -> Answer
-    ensures { λ r. ⌜ r ≡ stepOf s kind a b c ⌝ }
+// One event: code, reply, both lines and the state after it.
+pub fn step(s: State, e: Numbers) -> Answer
+    ensures { λ r. ⌜ r ≡ stepOf s e ⌝ }
 {
-    if bank::well::well_formed(s) {
-        event::checked(s, events::check(kind, a, b, c))
+    if judge::well_formed(s) {
+        event::checked(s, events::check(e))
     } else {
         answer::refused(6, s)
     }
@@ -33,11 +34,11 @@ pub fn step(s: State, kind: i32, a: i32, b: i32, c: i32) -> Answer
 pub fn is_well_formed(s: State) -> bool
     ensures { λ r. ⌜ r ≡ wellFormed s ⌝ }
 {
-    bank::well::well_formed(s)
+    judge::well_formed(s)
 }
 
 pub fn is_alert_low(s: State) -> bool
     ensures { λ r. ⌜ r ≡ alertLow s ⌝ }
 {
-    bank::lines::alert_low(s)
+    show::lines::alert_low(s)
 }

@@ -1,5 +1,5 @@
--- The program's text: its two ways, refused or answered; and, by replay's laws of room, that code 8 is not given and the text always fits.
--- Assumes nothing.
+-- The program's text: its two ways, refused or answered; and, by replay's laws of room, that code 8 is not given and the text
+-- always fits. Assumes nothing.
 use Prim.Native.Nat.{ℕ, _+_, _≤_, _<_}
 use native.Mathlib.Omega.{arith}
 use mathlib.Core.Path.{_≡_, refl, sym, ap, _∙_}

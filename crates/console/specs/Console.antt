@@ -1,5 +1,5 @@
--- Document 01, Traces and their replay: "A small program does the same from standard input". Everything that it writes, as one text of the
--- trace. Assumes nothing.
+-- Document 01, Traces and their replay: "A small program does the same from standard input". Everything that it writes, as one
+-- text of the trace. Assumes nothing.
 use Prim.Native.Nat.{ℕ, _+_, _≤_}
 use mathlib.Core.Path.{_≡_}
 use mathlib.Core.Bool.{cond, false}
@@ -10,10 +10,10 @@ use lib.ListN.{length}
 use Rattle.rules.specs.declared.state.State.{State}
 use Rattle.rules.specs.PowerOn.{madeOf}
 use Rattle.text.specs.Names.{endName}
-use Rattle.text.specs.Answer.{lineText}
+use Rattle.text.specs.Answer.{lineText, put}
 use Rattle.text.specs.declared.answer.Wrote.{Wrote}
 use Rattle.text.specs.declared.answer.Wrote.the-variants.{Bytes, NoRoom}
-use Rattle.replay.specs.Play.{Run, put, runOf}
+use Rattle.replay.specs.Play.{Run, runOf}
 use Rattle.replay.specs.Replay.{played, refusedAtOnce, replayOf}
 use Rattle.replay.specs.Room.{roomOf}
 

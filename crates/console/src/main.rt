@@ -1,6 +1,6 @@
-// A trace from standard input, its answers to standard output. One byte more than the limit is read, so that a longer trace is seen to be
-// longer; what lies beyond is left unread. A read that fails counts as the end of the input. That the bytes read and written are those of the
-// two streams is the C library's word: no contract can say it.
+// A trace from standard input, its answers to standard output. One byte more than the limit is read, so that a longer trace is
+// seen to be longer; what lies beyond is left unread. A read that fails counts as the end of the input. That the bytes read and
+// written are those of the two streams is the C library's word: no contract can say it.
 mod answers;
 
 use answers::LONGEST;

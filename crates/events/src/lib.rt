@@ -6,6 +6,8 @@ ghost use Rattle.rules.specs.Event as rule;
 ghost use Rattle.rules.specs.Event.{byteOf, sampleOf, goodIf, checkOf};
 use rules::event::Checked;
 use rules::event::Event;
+use rules::event::Numbers;
+use rules::event::Samples;
 
 fn within(lo: i32, hi: i32, x: i32) -> bool
     ensures { λ r. ⌜ r ≡ rule.within lo hi x ⌝ }
@@ -49,8 +51,8 @@ fn good_if(fields: bool, e: Event) -> Checked
 }
 
 // Code 1 for a kind that is none of 0..7, whatever its fields; code 2 for a field out of its range.
-pub fn check(kind: i32, a: i32, b: i32, c: i32) -> Checked
-    ensures { λ r. ⌜ r ≡ checkOf kind a b c ⌝ }
+fn kind_of(kind: i32, a: i32, b: i32, c: i32) -> Checked
+    ensures { λ r. ⌜ r ≡ rule.kindFrom kind a b c ⌝ }
 {
     match kind {
         0 => good_if(fields(a, 0, b, 0, c, 0), Event::Reset),
@@ -85,11 +87,20 @@ pub fn check(kind: i32, a: i32, b: i32, c: i32) -> Checked
         7 => good_if(
             within(-8192, 8191, a) & within(-32768, 32767, b) & within(0, 1, c),
             Event::End {
-                local: sample(a),
-                remote: sample(b),
-                broken: byte(c) == 1,
+                samples: Samples {
+                    local: sample(a),
+                    remote: sample(b),
+                    broken: byte(c) == 1,
+                },
             },
         ),
         _ => Checked::Bad(1),
     }
+}
+
+// The event that the numbers are, or the code that refuses them.
+pub fn check(e: Numbers) -> Checked
+    ensures { λ r. ⌜ r ≡ checkOf e ⌝ }
+{
+    kind_of(e.kind, e.a, e.b, e.c)
 }

@@ -3,7 +3,7 @@ use Prim.Native.Nat.{ℕ}
 use mathlib.Core.Path.{_≡_, refl}
 use mathlib.Core.List.{List, [], _∷_}
 use borrow.Author.Tests.{ne-eqb}
-use Rattle.rules.specs.Commands.{lookUp}
+use Rattle.rules.specs.Table.{lookUp}
 
 -- n is none of the table's numbers, in the form that the last arm of a `match` has it, beside what was known before
 abbrev pub NoneOf : {A : Type 0} → ℕ → List (ℕ × A) → Type 0 → Type 0

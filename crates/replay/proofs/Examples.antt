@@ -1,26 +1,27 @@
 -- The whole case and the empty trace hold of replay's definition, by computation. Assumes nothing.
 use mathlib.Core.Path.{refl}
-use Rattle.rules.specs.Commands.{sourceOf, targetOf}
-use Rattle.rules.specs.Comparisons.{marksOf}
-use Rattle.rules.specs.Conversion.{converted, convertedOf}
-use Rattle.rules.specs.Registers.{readAtPointer}
-use Rattle.rules.specs.Runs.{neededOf}
-use Rattle.rules.specs.Status.{statusOf, afterStatus}
-use Rattle.rules.specs.Step.{applyOf, endOf, respondOf, startOf, stepOf}
-use Rattle.rules.specs.Values.{codeOf, offsetOf}
-use Rattle.rules.specs.WellFormed.{wellFormed}
-use Rattle.rules.specs.Write.{standbyCompared, stored, written}
+use Rattle.rules.proofs.Tables.{opened as stepped}
 use Rattle.text.specs.Number.{digitsOf, numberOf, plainOf}
 use Rattle.text.specs.Line.{fitOf, lineOf}
 use Rattle.text.specs.Record.{recordOf}
 use Rattle.text.specs.Answer.{answerText, decimalOf, lineText}
+use Rattle.replay.specs.Consumed.{consumedFrom, consumedOf}
 use Rattle.replay.specs.Play.{addedOf, runFrom, runOf, textOf, turnOf}
 use Rattle.replay.specs.Replay.{replayFrom, reportOf}
-use Rattle.replay.specs.Examples.{EmptyTrace, WholeCase, wholeAnswers, wholeTrace}
+use Rattle.replay.specs.Examples.{EmptyTrace, WholeCase, WholeEvents, wholeAnswers, wholeTrace}
+
+-- to unfold this is to unfold all that one turn computes with, and the whole case
+unfoldable pub opened : Unit {0}
+unfolding stepped digitsOf numberOf plainOf fitOf lineOf recordOf answerText decimalOf lineText addedOf textOf turnOf wholeAnswers wholeTrace
+opened = tt
 
 pub whole-case : WholeCase
-unfolding sourceOf targetOf marksOf converted convertedOf readAtPointer neededOf statusOf afterStatus applyOf endOf respondOf startOf stepOf codeOf offsetOf wellFormed standbyCompared stored written digitsOf numberOf plainOf fitOf lineOf recordOf answerText decimalOf lineText addedOf runFrom runOf textOf turnOf replayFrom reportOf wholeAnswers wholeTrace
+unfolding opened runFrom runOf replayFrom reportOf
 whole-case = refl
+
+pub whole-events : WholeEvents
+unfolding opened consumedFrom consumedOf
+whole-events = refl
 
 pub empty-trace : EmptyTrace
 unfolding runFrom runOf replayFrom reportOf

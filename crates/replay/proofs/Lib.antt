@@ -1,5 +1,6 @@
 -- What is shown of replay, and the laws of its loop.
 pub mod Alarms
+pub mod Came
 pub mod Consumed
 pub mod Examples
 pub mod Plays

@@ -1,8 +1,7 @@
 -- Replay's two ways: refused at once, or played to its end. Assumes nothing.
 use Prim.Native.Nat.{ℕ}
-use native.Mathlib.Omega.{arith}
 use mathlib.Core.Path.{_≡_, refl, sym, ap, _∙_}
-use mathlib.Core.Bool.{Bool, true, false, _||_, not}
+use mathlib.Core.Bool.{Bool, true, false, _||_, not, or-true}
 use mathlib.Core.List.{List, _++_}
 use lib.Dec.{eqb}
 use lib.IntN.{ℤ}
@@ -10,16 +9,13 @@ use lib.IntN.ℤ.{pos}
 use lib.ListN.{length}
 use Rattle.rules.specs.declared.answer.Made.{Made}
 use Rattle.replay.specs.declared.play.Played.{Played}
-use Rattle.replay.specs.Play.{Ran, runOf}
+use Rattle.replay.specs.Play.{Ran}
 use Rattle.replay.specs.Replay.{Replayed, refusedAtOnce, replayFrom, reportOf, tooLong, word, writtenOver}
 
 -- a report that is not refused has 16 bytes
-sixteen : (a b c d : Bool) → (a || b || c || not d) ≡ false → d ≡ true
-sixteen false false false true e = refl
-sixteen false false false false e = sym e
-sixteen false false true d e = absurd (let z : _≡_ {A = ℕ} 0 1 = cc in omega arith)
-sixteen false true c d e = absurd (let z : _≡_ {A = ℕ} 0 1 = cc in omega arith)
-sixteen true b c d e = absurd (let z : _≡_ {A = ℕ} 0 1 = cc in omega arith)
+sixteen : (else given : Bool) → (else || not given) ≡ false → given ≡ true
+sixteen else true e = refl
+sixteen else false e = sym e ∙ or-true else
 
 module _ (made : Made) (trace output report : List ℕ) where
   pub refused : {r : ℤ} {report′ : List ℕ} → refusedAtOnce made trace output report ≡ true → r ≡ pos 2 → report′ ≡ report → Replayed (replayFrom made trace output report) r output report′
@@ -34,5 +30,5 @@ module _ (made : Made) (trace output report : List ℕ) where
       record {
         code = rw e (code ∙ ap pos (ran .code));
         bytes = rw e (ran .bytes);
-        told = told ∙ rw (e, sixteen (not (eqb (made .code) 0)) (tooLong trace) (tooLong output) (eqb (length report) 16) e, ran .code, ran .records, ran .used, ran .written);
+        told = told ∙ rw (e, sixteen (not (eqb (made .code) 0) || tooLong trace || tooLong output) (eqb (length report) 16) e, ran .code, ran .records, ran .used, ran .written);
       }

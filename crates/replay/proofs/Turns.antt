@@ -1,6 +1,6 @@
 -- One record's turn, from what its three calls give: the record read, the step, the answer written. Assumes nothing.
-use Prim.Native.Nat.{ℕ, _≤_, _<_}
-use mathlib.Core.Path.{_≡_, refl, sym, ap, _∙_}
+use Prim.Native.Nat.{ℕ}
+use mathlib.Core.Path.{_≡_, refl, ap}
 use mathlib.Core.List.{List, [], _∷_}
 use lib.ListN.{length}
 use borrow.Author.Tests.{le-leb, lt-leb}
@@ -14,12 +14,11 @@ use Rattle.text.specs.declared.record.Parsed.the-variants.{Whole, Part, Malform
 use Rattle.text.specs.declared.answer.Wrote.{Wrote}
 use Rattle.text.specs.declared.answer.Wrote.the-variants.{Bytes, NoRoom}
 use Rattle.text.specs.Record.{recordOf}
-use Rattle.text.specs.Answer.{Front, Put}
+use Rattle.text.specs.Answer.{Put}
 use Rattle.text.proofs.Put.{put-front, put-none}
 use Rattle.text.proofs.record.Parsed as parsed
-use Rattle.replay.specs.declared.play.Turn.{Turn}
 use Rattle.replay.specs.declared.play.Turn.the-variants.{Went, Stopped}
-use Rattle.replay.specs.Play.{Turned, addedFrom, addedOf, answerTo, put, textOf, turnFrom, turnOf}
+use Rattle.replay.specs.Play.{Turned, addedFrom, addedOf, answerTo, textOf, turnFrom, turnOf}
 
 -- no record: the parse answer's other two cases
 none : (s : State) (room : ℕ) (p : Parsed) → OneOf (1 ∷ 2 ∷ []) (E.Declared.tagOf parsed.the-type p) → (Stopped 7 ≡ turnFrom s room p) × (addedFrom s room p ≡ [])

@@ -2,45 +2,44 @@
 -- other. Proofs in proofs/Consumed.antt. Assumes nothing.
 use Prim.Native.Nat.{ℕ, zero, suc, _+_, _-_}
 use mathlib.Core.Path.{_≡_}
-use mathlib.Core.Bool.{Bool, cond}
+use mathlib.Core.Bool.{cond}
 use mathlib.Core.List.{List, [], _∷_, _++_}
 use lib.Dec.{eqb}
 use lib.IntN.{ℤ}
-use lib.IntN.ℤ.{pos}
 use lib.ListN.{length, drop}
+use Rattle.rules.specs.declared.event.Numbers.{Numbers}
 use Rattle.rules.specs.declared.state.State.{State}
 use Rattle.rules.specs.declared.answer.Answer.{Answer}
-use Rattle.rules.specs.Alarm.{answerFor}
 use Rattle.rules.specs.PowerOn.{madeOf}
-use Rattle.rules.specs.Sound.{after}
-use Rattle.rules.specs.Trial.{Four}
+use Rattle.rules.specs.Step.{after, stepOf}
 use Rattle.text.specs.declared.record.Parsed.{Parsed}
 use Rattle.text.specs.declared.record.Parsed.the-variants.{Whole, Part, Malformed}
 use Rattle.text.specs.Record.{recordOf}
-use Rattle.replay.specs.Play.{Run, onTurn, runOf, textOf, turnOf}
+use Rattle.replay.specs.Play.{numbersOf, onTurn, runOf, textOf, turnOf}
 
--- the four numbers of a record; a turn that goes on has one
-abbrev pub eventOf : Parsed → Four
-eventOf (Whole r n) = record { kind = r .kind; a = r .a; b = r .b; c = r .c }
-eventOf Part = record { kind = pos 0; a = pos 0; b = pos 0; c = pos 0 }
-eventOf Malformed = record { kind = pos 0; a = pos 0; b = pos 0; c = pos 0 }
+-- a record's event; without a record there is none
+abbrev pub eventsOf : Parsed → List Numbers
+eventsOf (Whole r n) = numbersOf r ∷ []
+eventsOf Part = []
+eventsOf Malformed = []
 
--- the events of the turns that went on: "nothing of it reaches the state" where the rest yields no record, "A record stopped by 8 isn't applied"
-unfoldable pub consumedFrom : ℕ → State → List ℕ → ℕ → List Four
+-- the events of the turns that went on: "nothing of it reaches the state" where the rest yields no record, "A record stopped by 8
+-- isn't applied"
+unfoldable pub consumedFrom : ℕ → State → List ℕ → ℕ → List Numbers
 consumedFrom zero s rest room = []
 consumedFrom (suc turns) s rest room =
     cond (eqb (length rest) 0) []
     (onTurn (turnOf s rest room)
-    (λ t n k. eventOf (recordOf rest) ∷ consumedFrom turns t (drop n rest) (room - k))
+    (λ t n k. eventsOf (recordOf rest) ++ consumedFrom turns t (drop n rest) (room - k))
     (λ code. []))
 
-unfoldable pub consumedOf : State → List ℕ → ℕ → List Four
+unfoldable pub consumedOf : State → List ℕ → ℕ → List Numbers
 consumedOf s trace room = consumedFrom (length trace) s trace room
 
 -- what events sent one after the other are answered
-unfoldable pub answersFrom : State → List Four → List Answer
+unfoldable pub answersFrom : State → List Numbers → List Answer
 answersFrom s [] = []
-answersFrom s (e ∷ es) = answerFor s e ∷ answersFrom (answerFor s e .state) es
+answersFrom s (e ∷ es) = stepOf s e ∷ answersFrom (stepOf s e .state) es
 
 -- the answers' text, one behind the other
 unfoldable pub textsOf : List Answer → List ℕ

@@ -1,10 +1,11 @@
 -- Records read, stepped and answered one after the other, up to the end or to what stops them. Assumes nothing.
 use Prim.Native.Nat.{ℕ, zero, suc, _+_, _-_}
 use mathlib.Core.Path.{_≡_}
-use mathlib.Core.Bool.{Bool, cond}
-use mathlib.Core.List.{List, [], _∷_, _++_}
+use mathlib.Core.Bool.{cond}
+use mathlib.Core.List.{List, [], _++_}
 use lib.Dec.{eqb, leb}
 use lib.ListN.{length, drop}
+use Rattle.rules.specs.declared.event.Numbers.{Numbers}
 use Rattle.rules.specs.declared.state.State.{State}
 use Rattle.rules.specs.declared.answer.Answer.{Answer}
 use Rattle.rules.specs.Step.{stepOf}
@@ -12,14 +13,17 @@ use Rattle.text.specs.declared.record.Record.{Record}
 use Rattle.text.specs.declared.record.Parsed.{Parsed}
 use Rattle.text.specs.declared.record.Parsed.the-variants.{Whole, Part, Malformed}
 use Rattle.text.specs.Record.{recordOf}
-use Rattle.text.specs.Answer.{answerText}
+use Rattle.text.specs.Answer.{answerText, put}
 use Rattle.replay.specs.declared.play.Played.{Played}
 use Rattle.replay.specs.declared.play.Turn.{Turn}
 use Rattle.replay.specs.declared.play.Turn.the-variants.{Went, Stopped}
 
--- what a record is answered, and the answer's text
+-- a record's event, what it is answered, and the answer's text
+abbrev pub numbersOf : Record → Numbers
+numbersOf r = record { kind = r .kind; a = r .a; b = r .b; c = r .c }
+
 abbrev pub answerTo : State → Record → Answer
-answerTo s r = stepOf s (r .kind) (r .a) (r .b) (r .c)
+answerTo s r = stepOf s (numbersOf r)
 
 unfoldable pub textOf : Answer → List ℕ
 textOf a = answerText (a .code) (a .reply) (a .alert) (a .therm)
@@ -46,10 +50,6 @@ addedFrom s room Malformed = []
 unfoldable pub addedOf : State → List ℕ → ℕ → List ℕ
 addedOf s rest room = addedFrom s room (recordOf rest)
 
--- a text at the front of what is lent, the rest as it was
-abbrev pub put : List ℕ → List ℕ → List ℕ
-put text before = text ++ drop (length text) before
-
 -- what one record's turn promises: "Answers go straight into the output"
 pub record Turned (s : State) (rest before after : List ℕ) (r : Turn) : Type 0 where
   pub said : r ≡ turnOf s rest (length before)
@@ -73,8 +73,8 @@ abbrev pub onTurn : {A : Type 0} → Turn → (State → ℕ → ℕ → A) → 
 onTurn (Went s n k) on off = on s n k
 onTurn (Stopped code) on off = off code
 
--- "An empty rest is the end, code 0"; "the counts leave out whatever stopped the replay"; "Codes 1 to 5 are answered as records and replay
--- goes on". A record is not empty, so as many turns as the trace has bytes are enough
+-- "An empty rest is the end, code 0"; "the counts leave out whatever stopped the replay"; "Codes 1 to 5 are answered as records
+-- and replay goes on". A record is not empty, so as many turns as the trace has bytes are enough
 unfoldable pub runFrom : ℕ → Run → List ℕ → ℕ → Run
 runFrom zero p rest room = ended p 0
 runFrom (suc turns) p rest room =

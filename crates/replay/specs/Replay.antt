@@ -1,5 +1,5 @@
 -- The report, the refusals, and replay whole. Assumes nothing.
-use Prim.Native.Nat.{ℕ, _+_, _/_, _%_}
+use Prim.Native.Nat.{ℕ, _/_, _%_}
 use mathlib.Core.Path.{_≡_}
 use mathlib.Core.Bool.{Bool, cond, _||_, not}
 use mathlib.Core.List.{List, [], _∷_, _++_}
@@ -9,7 +9,8 @@ use lib.IntN.ℤ.{pos}
 use lib.ListN.{length}
 use Rattle.rules.specs.declared.answer.Made.{Made}
 use Rattle.rules.specs.PowerOn.{madeOf}
-use Rattle.replay.specs.Play.{Run, put, runOf}
+use Rattle.text.specs.Answer.{put}
+use Rattle.replay.specs.Play.{Run, runOf}
 
 -- "each 4 bytes, low byte first"
 abbrev pub word : ℕ → List ℕ

@@ -1,5 +1,5 @@
--- "output room enough that code 8 is never given": how much that is, and what so much room gives. The proofs are in proofs/Room.antt.
--- Assumes nothing.
+-- "output room enough that code 8 is never given": how much that is, and what so much room gives. The proofs are in
+-- proofs/Room.antt. Assumes nothing.
 use Prim.Native.Nat.{ℕ, _*_, _/_, _≤_}
 use mathlib.Core.Path.{_≡_}
 use mathlib.Core.List.{List}

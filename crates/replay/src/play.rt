@@ -1,4 +1,5 @@
 // Records read, stepped and answered one after the other.
+use rules::event::Numbers;
 use rules::state::State;
 use text::answer::Wrote;
 use text::answer::write_answer;
@@ -6,8 +7,8 @@ use text::record::Parsed;
 use text::record::read_record;
 ghost use Rattle.replay.specs.Play.{Turned, Ran};
 
-// What one record came to: the state after it, the trace bytes that it used and the output bytes that its answer took; or the code that stops
-// the replay there.
+// What one record came to: the state after it, the trace bytes that it used and the output bytes that its answer took; or the
+// code that stops the replay there.
 pub enum Turn {
     Went(State, usize, usize),
     Stopped(u8),
@@ -29,7 +30,13 @@ pub fn take_turn(s: State, rest: &[u8], out: &mut [u8]) -> Turn
     let Parsed::Whole(r, n) = read_record(rest) else {
         return Turn::Stopped(7);
     };
-    let a = chip::step(s, r.kind, r.a, r.b, r.c);
+    let e = Numbers {
+        kind: r.kind,
+        a: r.a,
+        b: r.b,
+        c: r.c,
+    };
+    let a = chip::step(s, e);
     let wrote = write_answer(out, a.code, a.reply, a.alert, a.therm);
     match wrote {
         Wrote::Bytes(k) => {

@@ -5,9 +5,9 @@ use mathlib.Core.List.{[], _∷_}
 use Rattle.rules.specs.Channels.{any}
 
 -- what both of its sides have, a choice has
-pub choice : {A : Type 0} (P : A → Type 0) (t : Bool) (x y : A) → P x → P y → P (cond t x y)
-choice P true x y p q = p
-choice P false x y p q = q
+pub whichever : {A : Type 0} (P : A → Type 0) (t : Bool) (x y : A) → P x → P y → P (cond t x y)
+whichever P true x y p q = p
+whichever P false x y p q = q
 
 pub two : (a b : Bool) → (a || b) ≡ any (a ∷ b ∷ [])
 two true b = refl

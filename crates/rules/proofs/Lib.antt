@@ -1,10 +1,20 @@
 -- What is shown of the rules, and one law on numbers for the crates above.
 pub mod Alarm
+pub mod Answered
+pub mod Answers
+pub mod Assured
 pub mod Choice
+pub mod Commands
+pub mod Forms
 pub mod Kept
+pub mod Lists
 pub mod Match
+pub mod Meant
 pub mod NeverSix
-pub mod Shown
+pub mod Rows
+pub mod Status
+pub mod Steps
 pub mod Tables
+pub mod Therm
 pub mod Unique
 pub mod WellFormed

@@ -1,10 +1,16 @@
--- What an arm of a `match` on a signed number says of the number: its bits are the arm's. For the crates above. Assumes nothing.
-use Prim.Native.Nat.{ℕ}
+-- Signed numbers by their bits, for the crates above. Assumes nothing.
+use Prim.Native.Nat.{ℕ, _<_, _^_}
 use mathlib.Core.Path.{_≡_, sym, ap, _∙_}
 use lib.IntN.{ℤ}
-use mir.Syntax.{w32}
-use mir.Val.{SFits, ofZ, toZ}
+use lib.Signed.{mag}
+use mir.Syntax.{Width, w32}
+use mir.Val.{SFits, hbits, ofZ, toZ}
 use mir.Facts.{toZ-ofZ}
 
+-- what an arm of a `match` on a signed number says of the number: its bits are the arm's
 pub key : {x : ℤ} {n : ℕ} → SFits w32 x → ofZ w32 x ≡ n → x ≡ toZ w32 n
 key h e = sym (toZ-ofZ h) ∙ ap (toZ w32) e
+
+-- a number of a struct's field, which fits its width, is what its bits are
+pub field : (w : Width) (x : ℤ) → mag x < 2 ^ hbits w → toZ w (ofZ w x) ≡ x
+field w x h = toZ-ofZ (record { sfits = h })

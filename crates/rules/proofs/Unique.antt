@@ -1,5 +1,5 @@
 -- No second answer satisfies a public contract. Assumes nothing.
-use mathlib.Core.Path.{_≡_, sym, _∙_}
+use mathlib.Core.Path.{sym, _∙_}
 use Rattle.rules.specs.Lines.{alertLow}
 use Rattle.rules.specs.PowerOn.{madeOf}
 use Rattle.rules.specs.Step.{stepOf}
@@ -14,7 +14,7 @@ pub one-fresh : OneFresh
 one-fresh address = one (madeOf address)
 
 pub one-step : OneStep
-one-step s kind a b c = one (stepOf s kind a b c)
+one-step s e = one (stepOf s e)
 
 pub one-well-formed : OneWellFormed
 one-well-formed s = one (wellFormed s)

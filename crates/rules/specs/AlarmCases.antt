@@ -1,82 +1,92 @@
--- The premises of the claims in Alarm.antt and Kept.antt are met, and what the history counts, in cases worked out by hand: a claim whose premises nothing
--- meets says nothing. Proved in proofs/Tables.antt. Assumes nothing.
+-- The premises of the claims in Alarm.antt, Assured.antt and Kept.antt are met, and what the history counts, in cases worked out by hand:
+-- a claim whose premises nothing meets says nothing. Proved in proofs/Tables.antt. Assumes nothing.
 use Prim.Native.Nat.{ℕ}
 use mathlib.Core.Path.{_≡_}
-use mathlib.Core.Bool.{Bool, false, not}
+use mathlib.Core.Bool.{Bool, not, false}
 use mathlib.Core.List.{List, [], _∷_, map}
 use lib.Dec.{eqb}
 use lib.IntN.ℤ.{pos}
 use Rattle.rules.specs.declared.event.Checked.the-variants.{Good}
-use Rattle.rules.specs.declared.event.Event.the-variants.{Write}
-use Rattle.rules.specs.declared.register.Channel.the-variants.{Remote}
+use Rattle.rules.specs.declared.event.Event.the-variants.{Reset, Write}
+use Rattle.rules.specs.declared.event.Numbers.{Numbers}
+use Rattle.rules.specs.declared.register.Channel.the-variants.{Local, Remote}
+use Rattle.rules.specs.declared.register.Register.the-variants.{RemoteHigh}
 use Rattle.rules.specs.declared.state.State.{State}
-use Rattle.rules.specs.Alarm.{Flag, History, answerFor, beyond, comparesAt, everConverted, findsNow, formOf, historyOf, historyThen, inARow, isReset, isStatusEvent, lineFree, readsThatClosed, setsNow, spellsOpened, stands, stateOf, stateThen, uncleared, unread, viewOf}
-use Rattle.rules.specs.Alarm.Flag.{Limit, OpenDiode}
-use Rattle.rules.specs.Alarm.Side.{Above}
+use Rattle.rules.specs.Alarm.{historyOf, inARow, lineFree, clearingReadsThatShowed, spellsOpened, stands, stateOf, next, readsNext}
+use Rattle.rules.specs.Assured.{beyond, findsNow, nextAll, setsNow, uncleared, unread}
 use Rattle.rules.specs.Channels.{any}
-use Rattle.rules.specs.Configuration.{standby}
-use Rattle.rules.specs.Kept.{mayMeasure}
+use Rattle.rules.specs.Event.{checkOf}
+use Rattle.rules.specs.History.{History, comparesAt, inStandby, now}
 use Rattle.rules.specs.PowerOn.{madeOf}
-use Rattle.rules.specs.Trial.{Four, convert, end, read, receive, reset, respond, send, start, status, write}
+use Rattle.rules.specs.Status.{Flag}
+use Rattle.rules.specs.Status.Fault.{Above, Open}
+use Rattle.rules.specs.Step.{after, stepOf}
+use Rattle.rules.specs.Trial.{convert, read, reset, respond, start, status, write}
 use Rattle.rules.specs.WellFormed.{wellFormed}
 
 -- K12: converted, put in standby, the remote high limit lowered under the value; then other events, but no status read
-abbrev before : List Four
+abbrev before : List Numbers
 before = convert (pos 20) (pos 200) (write 0x09 0x40 ∷ [])
 
-abbrev lowered : Four
+abbrev lowered : Numbers
 lowered = write 0x0d 40
 
-abbrev later : List Four
+abbrev later : List Numbers
 later = read 0x05 ∷ respond ∷ write 0x0d 85 ∷ []
 
-abbrev stateNow : List Four → State
-stateNow es = stateThen (pos 76) before lowered es
+abbrev state : State
+state = stateOf (pos 76) before
+
+abbrev history : History
+history = historyOf (pos 76) before
+
+abbrev stateNow : State
+stateNow = stepOf state lowered .state
 
 abbrev historyNow : History
-historyNow = historyThen (pos 76) before lowered []
+historyNow = next state history lowered
+
+abbrev remoteHigh : Flag
+remoteHigh = record { channel = Remote; fault = Above }
+
+abbrev openFlag : Flag
+openFlag = record { channel = Remote; fault = Open }
 
 -- the limit raised, a status read, a response: no flag stands, and the latch is cleared
-abbrev acknowledged : List Four
+abbrev acknowledged : List Numbers
 acknowledged = write 0x0d 85 ∷ status ∷ respond ∷ []
 
 unfoldable pub met : List Bool
 met =
-    findsNow (Limit Remote Above) historyNow ∷ setsNow historyNow ∷ unread (stateNow []) later
-    ∷ uncleared historyNow (stateNow []) later ∷ isStatusEvent (stateNow later) status
-    ∷ lineFree (viewOf (stateNow later)) ∷ comparesAt 0x0d ∷ standby (stateOf (pos 76) before .config)
-    ∷ everConverted (historyOf (pos 76) before) ∷ beyond (viewOf (stateNow [])) Remote Above
-    ∷ isReset (formOf reset) ∷ not (stands OpenDiode (historyOf (pos 76) before))
-    ∷ not (unread (stateNow []) (status ∷ [])) ∷ not (unread (stateNow []) (reset ∷ []))
-    ∷ not (uncleared historyNow (stateNow []) acknowledged) ∷ not (uncleared historyNow (stateNow []) (reset ∷ []))
-    ∷ eqb (madeOf (pos 76) .code) 0 ∷ eqb (madeOf (pos 77) .code) 0 ∷ wellFormed (madeOf (pos 76) .state)
-    ∷ wellFormed (madeOf (pos 77) .state) ∷ not (wellFormed (madeOf (pos 78) .state)) ∷ lineFree (viewOf (stateNow []))
-    ∷ eqb (answerFor (stateNow []) start .code) 4 ∷ []
+    eqb (madeOf (pos 76) .code) 0 ∷ eqb (madeOf (pos 77) .code) 0 ∷ wellFormed (madeOf (pos 76) .state)
+    ∷ wellFormed (madeOf (pos 77) .state) ∷ not (wellFormed (madeOf (pos 78) .state))
+    ∷ findsNow remoteHigh historyNow ∷ setsNow historyNow
+    ∷ unread stateNow historyNow later ∷ uncleared stateNow historyNow later
+    ∷ readsNext (after stateNow later) (nextAll stateNow historyNow later) status
+    ∷ lineFree (now 76 (nextAll stateNow historyNow later)) ∷ lineFree (now 76 historyNow)
+    ∷ comparesAt 0x0d ∷ inStandby (now 76 history) ∷ now 76 history .converted Remote
+    ∷ beyond (now 76 historyNow) Remote Above ∷ not (stands openFlag history)
+    ∷ not (unread stateNow historyNow (status ∷ [])) ∷ not (unread stateNow historyNow (reset ∷ []))
+    ∷ not (uncleared stateNow historyNow acknowledged) ∷ not (uncleared stateNow historyNow (reset ∷ []))
+    ∷ eqb (stepOf stateNow start .code) 4 ∷ []
 
 abbrev pub PremisesMet : Type 0
 PremisesMet = any (map not met) ≡ false
 
-abbrev pub WriteMet : Type 0
-WriteMet = formOf lowered ≡ Good (Write 76 0x0d 40)
+abbrev pub FormsMet : Type 0
+FormsMet = (checkOf lowered ≡ Good (Write 76 0x0d 40)) × (checkOf reset ≡ Good Reset)
 
--- only the end of a conversion that runs and a reset may change a value; here none runs
-unfoldable pub quiet : List Bool
-quiet =
-    map (λ (e : Four). mayMeasure (stateNow []) (formOf e))
-    (send 0x05 ∷ write 0x05 1 ∷ read 0x05 ∷ receive ∷ respond ∷ start ∷ end (pos 20) (pos 200) 0 ∷ write 0x05 256 ∷ [])
-
-abbrev pub QuietMet : Type 0
-QuietMet = any quiet ≡ false
-
--- two conversions above the limit with one below it and a status read between: two spells, one read that closed one, one fault in a row
-abbrev spells : List Four
-spells = convert (pos 20) (pos 341) (convert (pos 20) (pos 200) (status ∷ convert (pos 20) (pos 341) []))
+-- two conversions above the limit with one below it and a status read between: two spells, one read that closed one, one fault in a row;
+-- the values seen are the codes of the samples, and the limit the byte last written
+abbrev spells : List Numbers
+spells = convert (pos 20) (pos 341) (convert (pos 20) (pos 200) (status ∷ write 0x0d 84 ∷ convert (pos 21) (pos 342) []))
 
 abbrev countsOf : Flag → History → List ℕ
-countsOf f h = spellsOpened f h ∷ readsThatClosed f h ∷ inARow h ∷ []
+countsOf f h =
+    spellsOpened f h ∷ clearingReadsThatShowed f h ∷ inARow h ∷ now 76 h .value Local ∷ now 76 h .value Remote ∷ now 76 h .registers RemoteHigh ∷ []
 
 unfoldable pub counted : List ℕ
-counted = countsOf (Limit Remote Above) (historyOf (pos 76) spells)
+counted = countsOf remoteHigh (historyOf (pos 76) spells)
 
 abbrev pub CountsMet : Type 0
-CountsMet = counted ≡ (2 ∷ 1 ∷ 1 ∷ [])
+CountsMet = counted ≡ (2 ∷ 1 ∷ 1 ∷ 21 ∷ 342 ∷ 84 ∷ [])

@@ -5,9 +5,10 @@ use mathlib.Core.Path.{_≡_}
 use mathlib.Core.List.{List, [], _∷_, map}
 use lib.IntN.ℤ.{pos, negsuc}
 use lib.IntN.{ℤ}
+use Rattle.rules.specs.declared.event.Numbers.{Numbers}
 use Rattle.rules.specs.Values.{offsetOf}
 use Rattle.rules.specs.Runs.{neededOf}
-use Rattle.rules.specs.Trial.{Four, Row, row, answered, gots, wants, write, read, respond, start, end, status, convert}
+use Rattle.rules.specs.Trial.{Row, row, answered, gots, wants, write, read, respond, start, end, status, convert}
 
 -- a signed number as two: 0 and n for n, 1 and n for -n
 abbrev signed : ℤ → List ℕ
@@ -15,11 +16,11 @@ signed (pos n) = 0 ∷ n ∷ []
 signed (negsuc n) = 1 ∷ suc n ∷ []
 
 -- "A whole case at address 76", and K11's events, which go on from it
-abbrev whole : List Four → List Four
+abbrev whole : List Numbers → List Numbers
 whole later = start ∷ end (pos 20) (pos 341) 0 ∷ status ∷ later
 
 -- K12's conversion, and its limit write
-abbrev warm : List Four → List Four
+abbrev warm : List Numbers → List Numbers
 warm later = convert (pos 20) (pos 200) later
 
 unfoldable pub benchRows : List Row

@@ -1,15 +1,31 @@
--- Comparisons: high, low and THERM with its hysteresis, once for every channel over its scale. Assumes nothing.
+-- Comparisons: high, low and THERM with its hysteresis, once for every channel over its limits in its own codes. Assumes nothing.
 use Prim.Native.Nat.{ℕ, _+_, _*_, _-_, _/_}
 use mathlib.Core.Bool.{Bool, cond, _||_, _&&_, true, false}
 use lib.Dec.{ltb, leb}
-use Rattle.rules.specs.declared.state.Latched.{Latched}
-use Rattle.rules.specs.declared.state.Marks.{Marks}
-use Rattle.rules.specs.declared.state.Sensor.{Sensor}
-use Rattle.rules.specs.Setters.{withMarks}
+use Rattle.rules.specs.declared.register.Channel.{Channel}
+use Rattle.rules.specs.declared.register.Register.{Register}
+use Rattle.rules.specs.declared.register.Register.the-variants.{Hysteresis}
+use Rattle.rules.specs.declared.state.ChannelState.{ChannelState}
+use Rattle.rules.specs.declared.state.Limits.{Limits}
+use Rattle.rules.specs.declared.state.Mark.{Mark}
+use Rattle.rules.specs.Channels.{Held, byteOf, fineOf, scaleOf, traits}
 
--- "4 times the high byte plus low byte over 64"
+-- "Remote limits are 4 times the high byte plus low byte over 64"; of a channel with no low bytes, the byte
 abbrev pub limitOf : ℕ → ℕ → ℕ → ℕ
 limitOf scale high fine = scale * high + fine / 64
+
+abbrev pub heldLimit : (Register → ℕ) → ℕ → Held → ℕ
+heldLimit f scale h = limitOf scale (byteOf f h) (fineOf f h)
+
+-- a channel's limits by the registers; THERM and its hysteresis, "both sides count 4 codes per degree"
+abbrev pub limitsOf : (Register → ℕ) → Channel → Limits
+limitsOf f ch =
+    record {
+      high = heldLimit f (scaleOf ch) (traits ch .high);
+      low = heldLimit f (scaleOf ch) (traits ch .low);
+      therm = heldLimit f (scaleOf ch) (traits ch .therm);
+      hysteresis = scaleOf ch * f Hysteresis;
+    }
 
 -- "High: value above limit."
 abbrev pub aboveOf : ℕ → ℕ → Bool
@@ -26,31 +42,37 @@ comparatorOf limit hysteresis value was =
     cond (ltb limit value) true (cond (leb value (limit - hysteresis)) false was)
 
 -- Status, "Flags 6 to 2 are set by a comparison that finds the fault": what it found is the latest verdict
-abbrev pub verdictOf : Latched → Bool → Latched
-verdictOf l fault = record { found = fault; flag = l .flag || fault }
+abbrev pub verdictOf : Mark → Bool → Mark
+verdictOf m fault = record { found = fault; flag = m .flag || fault }
 
--- one channel compared: both limits, and THERM, where "both sides count 4 codes per degree"
-unfoldable pub marksOf : ℕ → ℕ → Sensor → Marks
-marksOf scale hysteresis c =
+-- one channel compared: both limits, and THERM
+unfoldable pub comparedOf : Limits → ChannelState → ChannelState
+comparedOf l c =
     record {
-      high = verdictOf (c .marks .high) (aboveOf (limitOf scale (c .settings .high) (c .settings .highfine)) (c .value));
-      low = verdictOf (c .marks .low) (belowOf (limitOf scale (c .settings .low) (c .settings .lowfine)) (c .value));
-      diode = c .marks .diode;
-      therm = comparatorOf (scale * c .settings .therm) (scale * hysteresis) (c .value) (c .marks .therm);
+      value = c .value;
+      converted = c .converted;
+      high = verdictOf (c .high) (aboveOf (l .high) (c .value));
+      low = verdictOf (c .low) (belowOf (l .low) (c .value));
+      diode = c .diode;
+      therm = comparatorOf (l .therm) (l .hysteresis) (c .value) (c .therm);
     }
 
-abbrev pub comparedOf : ℕ → ℕ → Sensor → Sensor
-comparedOf scale hysteresis c = withMarks c (marksOf scale hysteresis c)
-
 -- "compares each channel converted since power-on"
-abbrev pub recomparedOf : ℕ → ℕ → Sensor → Sensor
-recomparedOf scale hysteresis c = cond (c .converted) (comparedOf scale hysteresis c) c
+abbrev pub recomparedOf : Limits → ChannelState → ChannelState
+recomparedOf l c = cond (c .converted) (comparedOf l c) c
 
 -- the diode check, made at a conversion
-abbrev pub diodeOf : Bool → Sensor → Sensor
+abbrev pub diodeOf : Bool → ChannelState → ChannelState
 diodeOf broken c =
-    withMarks c (record { high = c .marks .high; low = c .marks .low; diode = verdictOf (c .marks .diode) broken; therm = c .marks .therm })
+    record {
+      value = c .value;
+      converted = c .converted;
+      high = c .high;
+      low = c .low;
+      diode = verdictOf (c .diode) broken;
+      therm = c .therm;
+    }
 
 -- a limit fault was found when the channel was last compared; one never converted was not compared
-abbrev pub faultOf : Sensor → Bool
-faultOf c = c .converted && (c .marks .high .found || c .marks .low .found)
+abbrev pub faultOf : ChannelState → Bool
+faultOf c = c .converted && (c .high .found || c .low .found)

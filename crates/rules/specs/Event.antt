@@ -2,15 +2,19 @@
 -- Answer codes: 1, "kind outside 0..7"; 2, "a field out of its range, or an unused field not 0"; 1 is tested before 2.
 -- Assumes nothing.
 use Prim.Native.Nat.{ℕ}
-use mathlib.Core.Bool.{Bool, cond, _&&_, false}
+use mathlib.Core.Bool.{Bool, cond, _&&_}
+use mathlib.Core.List.{List, [], _∷_}
 use lib.Dec.{eqb, leb}
 use lib.IntN.{ℤ}
 use lib.IntN.ℤ.{pos, negsuc}
 use lib.Signed.{leZ}
+use Rattle.rules.specs.declared.event.Numbers.{Numbers}
+use Rattle.rules.specs.declared.event.Samples.{Samples}
 use Rattle.rules.specs.declared.event.Event.{Event}
 use Rattle.rules.specs.declared.event.Event.the-variants.{Reset, Send, Write, Read, Receive, Respond, Start, End}
 use Rattle.rules.specs.declared.event.Checked.{Checked}
 use Rattle.rules.specs.declared.event.Checked.the-variants.{Good, Bad}
+use Rattle.rules.specs.Table.{lookUp}
 
 -- the number is one of lo..hi
 abbrev pub within : ℤ → ℤ → ℤ → Bool
@@ -49,25 +53,32 @@ byteOf (negsuc n) = 0
 abbrev pub sampleOf : ℤ → ℤ
 sampleOf x = cond (isRemoteSample x) x (pos 0)
 
+-- what a conversion measured
+abbrev pub samplesOf : ℤ → ℤ → ℤ → Samples
+samplesOf a b c = record { local = sampleOf a; remote = sampleOf b; broken = eqb (byteOf c) 1 }
+
 -- the event where its fields are in range, otherwise code 2
 abbrev pub goodIf : Bool → Event → Checked
 goodIf fields e = cond fields (Good e) (Bad 2)
 
 -- the table of kinds
-abbrev pub kindOf : ℕ → ℤ → ℤ → ℤ → Checked
-kindOf kind a b c =
-    cond (eqb kind 0) (goodIf (unused a && unused b && unused c) Reset)
-    (cond (eqb kind 1) (goodIf (isBusAddress a && isByte b && unused c) (Send (byteOf a) (byteOf b)))
-    (cond (eqb kind 2) (goodIf (isBusAddress a && isByte b && isByte c) (Write (byteOf a) (byteOf b) (byteOf c)))
-    (cond (eqb kind 3) (goodIf (isBusAddress a && isByte b && unused c) (Read (byteOf a) (byteOf b)))
-    (cond (eqb kind 4) (goodIf (isBusAddress a && unused b && unused c) (Receive (byteOf a)))
-    (cond (eqb kind 5) (goodIf (unused a && unused b && unused c) Respond)
-    (cond (eqb kind 6) (goodIf (unused a && unused b && unused c) Start)
-    (cond (eqb kind 7)
-    (goodIf (isLocalSample a && isRemoteSample b && isMark c) (End (sampleOf a) (sampleOf b) (eqb (byteOf c) 1)))
-    (Bad 1))))))))
+abbrev pub kinds : ℤ → ℤ → ℤ → List (ℕ × Checked)
+kinds a b c =
+    (0, goodIf (unused a && unused b && unused c) Reset) ∷
+    (1, goodIf (isBusAddress a && isByte b && unused c) (Send (byteOf a) (byteOf b))) ∷
+    (2, goodIf (isBusAddress a && isByte b && isByte c) (Write (byteOf a) (byteOf b) (byteOf c))) ∷
+    (3, goodIf (isBusAddress a && isByte b && unused c) (Read (byteOf a) (byteOf b))) ∷
+    (4, goodIf (isBusAddress a && unused b && unused c) (Receive (byteOf a))) ∷
+    (5, goodIf (unused a && unused b && unused c) Respond) ∷
+    (6, goodIf (unused a && unused b && unused c) Start) ∷
+    (7, goodIf (isLocalSample a && isRemoteSample b && isMark c) (End (samplesOf a b c))) ∷
+    []
 
 -- "kind outside 0..7" is code 1, whatever the fields
-abbrev pub checkOf : ℤ → ℤ → ℤ → ℤ → Checked
-checkOf (pos kind) a b c = kindOf kind a b c
-checkOf (negsuc k) a b c = Bad 1
+abbrev pub kindFrom : ℤ → ℤ → ℤ → ℤ → Checked
+kindFrom (pos kind) a b c = lookUp kind (kinds a b c) (Bad 1)
+kindFrom (negsuc k) a b c = Bad 1
+
+-- the event that the numbers are, or the code that refuses them
+abbrev pub checkOf : Numbers → Checked
+checkOf e = kindFrom (e .kind) (e .a) (e .b) (e .c)

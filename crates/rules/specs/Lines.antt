@@ -1,10 +1,9 @@
 -- Status, ALERT, THERM: the two lines. Assumes nothing.
 use mathlib.Core.Bool.{Bool, not, _&&_}
-use mathlib.Core.List.{map}
-use Rattle.rules.specs.declared.state.Sensor.{Sensor}
 use Rattle.rules.specs.declared.state.State.{State}
-use Rattle.rules.specs.Channels.{any, sensorsOf}
+use Rattle.rules.specs.Channels.{anyChannel}
 use Rattle.rules.specs.Configuration.{masked, choosesTherm2}
+use Rattle.rules.specs.State.{channelAt}
 
 -- "ALERT is low exactly if the latch is set and configuration bits 7 and 5 are 0": what an alert response is answered by
 abbrev pub alertLow : State → Bool
@@ -15,11 +14,8 @@ abbrev pub alertLine : State → Bool
 alertLine s = not (alertLow s)
 
 -- "THERM is low exactly if flag 1 or 0 is set"
-abbrev pub thermOf : Sensor → Bool
-thermOf c = c .marks .therm
-
 abbrev pub thermLow : State → Bool
-thermLow s = any (map thermOf (sensorsOf s))
+thermLow s = anyChannel (λ ch. channelAt s ch .therm)
 
 abbrev pub thermLine : State → Bool
 thermLine s = not (thermLow s)

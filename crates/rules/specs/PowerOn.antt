@@ -6,66 +6,32 @@ use lib.Dec.{eqb}
 use lib.IntN.{ℤ}
 use lib.IntN.ℤ.{pos, negsuc}
 use Rattle.rules.specs.declared.state.Given.{Given}
-use Rattle.rules.specs.declared.state.Settings.{Settings}
-use Rattle.rules.specs.declared.state.Latched.{Latched}
-use Rattle.rules.specs.declared.state.Marks.{Marks}
-use Rattle.rules.specs.declared.state.Sensor.{Sensor}
+use Rattle.rules.specs.declared.state.Mark.{Mark}
+use Rattle.rules.specs.declared.state.ChannelState.{ChannelState}
 use Rattle.rules.specs.declared.state.State.{State}
 use Rattle.rules.specs.declared.answer.Made.{Made}
+use Rattle.rules.specs.Rows.{rowOf}
+use Rattle.rules.specs.State.{Rest, stateFrom}
 
 -- "no comparison made": no fault was found, and no flag stands
-abbrev pub noMark : Latched
+abbrev pub noMark : Mark
 noMark = record { found = false; flag = false }
 
-abbrev pub noMarks : Marks
-noMarks = record { high = noMark; low = noMark; diode = noMark; therm = false }
-
--- "limits 05, 07, 19, 20 are 55; 06, 08 are 00; .. all else 00": both channels alike
-abbrev pub settingsOn : Settings
-settingsOn =
-    record { high = 0x55; highfine = 0; low = 0; lowfine = 0; offset = 0; offsetfine = 0; therm = 0x55 }
-
 -- "no channel yet converted, no comparison made"
-abbrev pub sensorOf : Settings → Sensor
-sensorOf t = record { settings = t; value = 0; converted = false; marks = noMarks }
+abbrev pub newChannel : ChannelState
+newChannel = record { value = 0; converted = false; high = noMark; low = noMark; diode = noMark; therm = false }
 
--- "rate 08; hysteresis 0A; consecutive 01; .. all else 00, pointer 00, .. run count 0", at what was given
+-- "pointer 00, .. run count 0"
+abbrev pub newRest : Rest
+newRest = record { pointer = 0; busy = false; runs = 0; latch = false }
+
+-- each register's byte is its row's, at what was given
 abbrev pub powerOn : Given → State
-powerOn g =
-    record {
-      given = g;
-      pointer = 0;
-      config = 0;
-      rate = 0x08;
-      hysteresis = 0x0a;
-      consecutive = 0x01;
-      busy = false;
-      runs = 0;
-      latch = false;
-      local = sensorOf settingsOn;
-      remote = sensorOf settingsOn;
-    }
-
-abbrev pub noSettings : Settings
-noSettings =
-    record { high = 0; highfine = 0; low = 0; lowfine = 0; offset = 0; offsetfine = 0; therm = 0 }
+powerOn g = stateFrom g newRest (λ r. rowOf r .start) (λ ch. newChannel)
 
 -- "a state of all zeros"
 abbrev pub allZero : State
-allZero =
-    record {
-      given = record { address = 0 };
-      pointer = 0;
-      config = 0;
-      rate = 0;
-      hysteresis = 0;
-      consecutive = 0;
-      busy = false;
-      runs = 0;
-      latch = false;
-      local = sensorOf noSettings;
-      remote = sensorOf noSettings;
-    }
+allZero = stateFrom (record { address = 0 }) newRest (λ r. 0) (λ ch. newChannel)
 
 -- "address 76 or 77"
 abbrev pub isAddress : ℕ → Bool

@@ -1,36 +1,58 @@
 -- What K1 to K12 do not reach, in the form of the bench cases' table: the cases that decide most, worked out from document 01 by
 -- hand. Assumes nothing.
 use mathlib.Core.Path.{_≡_}
+use mathlib.Core.Bool.{true}
 use mathlib.Core.List.{List, [], _∷_}
 use Prim.Native.Nat.{ℕ}
 use lib.IntN.ℤ.{pos, negsuc}
+use Rattle.rules.specs.declared.event.Numbers.{Numbers}
+use Rattle.rules.specs.declared.register.Channel.{Channel}
 use Rattle.rules.specs.declared.register.Channel.the-variants.{Local, Remote}
-use Rattle.rules.specs.declared.register.Setting.the-variants.{HighFine, Offset}
-use Rattle.rules.specs.declared.register.Register.the-variants.{Of}
+use Rattle.rules.specs.declared.register.Register.the-variants.{Config, RemoteHighFine, RemoteLowFine, RemoteOffsetFine}
 use Rattle.rules.specs.declared.state.State.{State}
-use Rattle.rules.specs.PowerOn.{powerOn}
-use Rattle.rules.specs.Registers.{withStored}
-use Rattle.rules.specs.Setters.{withConfig, withRuns, withSensors, withValue}
-use Rattle.rules.specs.Trial.{Four, Row, row, four, answered, answeredAt, answeredFrom, gots, wants, reset, send, write, read, receive, respond, start, end, status, convert}
+use Rattle.rules.specs.Comparisons.{diodeOf}
+use Rattle.rules.specs.Conversion.{measuredOf}
+use Rattle.rules.specs.PowerOn.{newChannel, powerOn}
+use Rattle.rules.specs.State.{withChannel, withRuns, withStored}
+use Rattle.rules.specs.Trial.{Row, row, four, answered, answeredAt, answeredFrom, gots, wants, reset, send, write, read, receive, respond, start, end, status, convert}
 
 -- a conversion with nothing at fault, and one with the remote channel above its limit and below its THERM limit, which is raised
-abbrev good : List Four → List Four
+abbrev good : List Numbers → List Numbers
 good later = convert (pos 20) (pos 200) later
 
-abbrev hot : List Four → List Four
+abbrev hot : List Numbers → List Numbers
 hot later = convert (pos 20) (pos 341) later
 
-abbrev highTherm : Four
+abbrev highTherm : Numbers
 highTherm = write 0x19 0x7f
 
-abbrev highTherm77 : Four
+abbrev highTherm77 : Numbers
 highTherm77 = four 2 (pos 77) (pos 0x19) (pos 0x7f)
 
 abbrev ready : State
 ready = powerOn (record { address = 76 })
 
+-- with a value in one channel
+abbrev holding : Channel → ℕ → State
+holding ch value = withChannel ready ch (measuredOf value newChannel)
+
+-- a register's byte at power-on, and what is read back of 255
+abbrev atPowerOn : ℕ → ℕ → Row
+atPowerOn reads byte = row (answered (read reads ∷ [])) (0 ∷ byte ∷ 1 ∷ 1 ∷ [])
+
+abbrev readBack : ℕ → ℕ → ℕ → Row
+readBack writes reads byte = row (answered (write writes 0xff ∷ read reads ∷ [])) (0 ∷ byte ∷ 1 ∷ 1 ∷ [])
+
 unfoldable pub ruleRows : List Row
 ruleRows =
+    -- every register at its addresses
+    atPowerOn 0x03 0x00 ∷ readBack 0x09 0x03 0xe4 ∷ atPowerOn 0x04 0x08 ∷ readBack 0x0a 0x04 0xff ∷
+    atPowerOn 0x05 0x55 ∷ readBack 0x0b 0x05 0xff ∷ atPowerOn 0x06 0x00 ∷ readBack 0x0c 0x06 0xff ∷
+    atPowerOn 0x07 0x55 ∷ readBack 0x0d 0x07 0xff ∷ atPowerOn 0x08 0x00 ∷ readBack 0x0e 0x08 0xff ∷
+    atPowerOn 0x11 0x00 ∷ readBack 0x11 0x11 0xff ∷ atPowerOn 0x12 0x00 ∷ readBack 0x12 0x12 0xc0 ∷
+    atPowerOn 0x13 0x00 ∷ readBack 0x13 0x13 0xc0 ∷ atPowerOn 0x14 0x00 ∷ readBack 0x14 0x14 0xc0 ∷
+    atPowerOn 0x19 0x55 ∷ readBack 0x19 0x19 0xff ∷ atPowerOn 0x20 0x55 ∷ readBack 0x20 0x20 0xff ∷
+    atPowerOn 0x21 0x0a ∷ readBack 0x21 0x21 0xff ∷ atPowerOn 0x22 0x01 ∷ readBack 0x22 0x22 0xff ∷
     -- Errors that look right: in the extended range 55 is 21 °C, local and remote
     row (answered (write 0x09 4 ∷ convert (pos 21) (pos 84) (status ∷ []))) (0 ∷ 0 ∷ 1 ∷ 1 ∷ []) ∷
     row (answered (write 0x09 4 ∷ convert (pos 22) (pos 84) (status ∷ []))) (0 ∷ 65 ∷ 0 ∷ 0 ∷ []) ∷
@@ -78,9 +100,7 @@ ruleRows =
     -- a receive byte at 02 clears
     row (answered (highTherm ∷ hot (good (send 0x02 ∷ receive ∷ receive ∷ [])))) (0 ∷ 0 ∷ 0 ∷ 1 ∷ []) ∷
     -- trimmed bits
-    row (answered (write 0x09 0xff ∷ read 0x03 ∷ [])) (0 ∷ 0xe4 ∷ 1 ∷ 1 ∷ []) ∷
     row (answered (write 0x12 0xff ∷ receive ∷ [])) (0 ∷ 0xc0 ∷ 1 ∷ 1 ∷ []) ∷
-    row (answered (write 0x0a 0xff ∷ read 0x04 ∷ [])) (0 ∷ 0xff ∷ 1 ∷ 1 ∷ []) ∷
     -- the run count starts anew after a conversion with no fault
     row (answered (highTherm ∷ write 0x22 0x07 ∷ hot (hot (good (hot (hot [])))))) (0 ∷ 0 ∷ 1 ∷ 1 ∷ []) ∷
     row (answered (highTherm ∷ write 0x22 0x07 ∷ hot (hot (good (hot (hot (hot []))))))) (0 ∷ 0 ∷ 0 ∷ 1 ∷ []) ∷
@@ -134,15 +154,17 @@ ruleRows =
     -- code 6 before any other: each of its tests, one beyond and at its end
     row (answeredAt 75 (four 8 (pos 0) (pos 0) (pos 0) ∷ [])) (6 ∷ 0 ∷ 1 ∷ 1 ∷ []) ∷
     row (answeredFrom (powerOn (record { address = 78 })) (start ∷ [])) (6 ∷ 0 ∷ 1 ∷ 1 ∷ []) ∷
-    row (answeredFrom (withSensors ready (ready .local) (withValue (ready .remote) 1024)) (start ∷ [])) (6 ∷ 0 ∷ 1 ∷ 1 ∷ []) ∷
-    row (answeredFrom (withSensors ready (ready .local) (withValue (ready .remote) 1023)) (start ∷ [])) (0 ∷ 0 ∷ 1 ∷ 1 ∷ []) ∷
-    row (answeredFrom (withSensors ready (withValue (ready .local) 256) (ready .remote)) (start ∷ [])) (6 ∷ 0 ∷ 1 ∷ 1 ∷ []) ∷
+    row (answeredFrom (holding Remote 1024) (start ∷ [])) (6 ∷ 0 ∷ 1 ∷ 1 ∷ []) ∷
+    row (answeredFrom (holding Remote 1023) (start ∷ [])) (0 ∷ 0 ∷ 1 ∷ 1 ∷ []) ∷
+    row (answeredFrom (holding Local 256) (start ∷ [])) (6 ∷ 0 ∷ 1 ∷ 1 ∷ []) ∷
     row (answeredFrom (withRuns ready 5) (start ∷ [])) (6 ∷ 0 ∷ 1 ∷ 1 ∷ []) ∷
     row (answeredFrom (withRuns ready 4) (start ∷ [])) (0 ∷ 0 ∷ 1 ∷ 1 ∷ []) ∷
-    row (answeredFrom (withConfig ready 16) (start ∷ [])) (6 ∷ 0 ∷ 1 ∷ 1 ∷ []) ∷
-    row (answeredFrom (withConfig ready 164) (start ∷ [])) (0 ∷ 0 ∷ 1 ∷ 1 ∷ []) ∷
-    row (answeredFrom (withStored ready (Of Remote HighFine) 32) (start ∷ [])) (6 ∷ 0 ∷ 1 ∷ 1 ∷ []) ∷
-    row (answeredFrom (withStored ready (Of Local Offset) 1) (start ∷ [])) (6 ∷ 0 ∷ 1 ∷ 1 ∷ []) ∷
+    row (answeredFrom (withStored ready Config 16) (start ∷ [])) (6 ∷ 0 ∷ 1 ∷ 1 ∷ []) ∷
+    row (answeredFrom (withStored ready Config 164) (start ∷ [])) (0 ∷ 0 ∷ 1 ∷ 1 ∷ []) ∷
+    row (answeredFrom (withStored ready RemoteHighFine 32) (start ∷ [])) (6 ∷ 0 ∷ 1 ∷ 1 ∷ []) ∷
+    row (answeredFrom (withStored ready RemoteLowFine 32) (start ∷ [])) (6 ∷ 0 ∷ 1 ∷ 1 ∷ []) ∷
+    row (answeredFrom (withStored ready RemoteOffsetFine 32) (start ∷ [])) (6 ∷ 0 ∷ 1 ∷ 1 ∷ []) ∷
+    row (answeredFrom (withChannel ready Local (diodeOf true newChannel)) (start ∷ [])) (6 ∷ 0 ∷ 1 ∷ 1 ∷ []) ∷
     -- an open diode without a limit fault ends the run: of three that are needed this is the second
     row (answered (write 0x22 7 ∷ write 0x0b 15 ∷ convert (pos 20) (pos 100) (start ∷ end (pos 10) (pos 100) 1 ∷ convert (pos 20) (pos 100) (write 0x09 64 ∷ write 0x0b 85 ∷ status ∷ respond ∷ write 0x09 0 ∷ write 0x0b 15 ∷ convert (pos 20) (pos 100) [])))) (0 ∷ 0 ∷ 1 ∷ 1 ∷ []) ∷
     -- a read moves the pointer; a status read leaves a limit; one is written while a one-shot runs; a hole's write changes nothing else

@@ -4,11 +4,10 @@ use mathlib.Core.Bool.{Bool, cond, _||_, true, false}
 use mathlib.Core.List.{List, [], _∷_}
 use lib.Dec.{ltb, leb}
 use Rattle.rules.specs.Bits.{bit}
-use Rattle.rules.specs.Channels.{any}
 
 -- "completed conversions in a row in which any of the four limit faults was found, held at 4"
-abbrev pub runsOf : ℕ → List Bool → ℕ
-runsOf runs faults = cond (any faults) (cond (ltb runs 4) (runs + 1) 4) 0
+abbrev pub runsOf : ℕ → Bool → ℕ
+runsOf runs fault = cond fault (cond (ltb runs 4) (runs + 1) 4) 0
 
 -- "the ones that stand together" at the front
 abbrev pub ones : List Bool → ℕ

@@ -1,17 +1,10 @@
 -- Values: what a measurement becomes in a channel's value register, once for every channel over its scale, the codes to a degree.
 -- Assumes nothing.
-use Prim.Native.Nat.{ℕ, _+_, _*_, _-_, _/_, _%_}
+use Prim.Native.Nat.{ℕ, _*_, _-_, _/_, _%_}
 use mathlib.Core.Bool.{Bool, cond}
 use lib.Dec.{ltb}
 use lib.IntN.{ℤ, _+ℤ_, _-ℤ_, _*ℤ_}
 use lib.IntN.ℤ.{pos, negsuc}
-use Rattle.rules.specs.declared.register.Channel.{Channel}
-use Rattle.rules.specs.declared.register.Channel.the-variants.{Local, Remote}
-
--- the local channel counts whole degrees, the remote quarters
-abbrev pub scaleOf : Channel → ℕ
-scaleOf Local = 1
-scaleOf Remote = 4
 
 -- "high byte as signed"
 abbrev pub signedOf : ℕ → ℤ

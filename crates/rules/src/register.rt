@@ -1,27 +1,25 @@
-// Document 01, Registers: a register is named by what it holds and, where each channel has one, by its channel.
+// Document 01, Registers: what the commands name.
 pub enum Channel {
     Local,
     Remote,
 }
 
-// What the bus writes for one channel. The fine ones are the low bytes, which hold quarters in bits 7 and 6.
-pub enum Setting {
-    High,
-    HighFine,
-    Low,
-    LowFine,
-    Offset,
-    OffsetFine,
-    Therm,
-}
-
-// The registers that are written and read back.
+// The registers that are written and read back. The fine ones are low bytes, which hold quarters in bits 7 and 6.
 pub enum Register {
     Config,
     Rate,
     Hysteresis,
     Consecutive,
-    Of(Channel, Setting),
+    LocalHigh,
+    LocalLow,
+    LocalTherm,
+    RemoteHigh,
+    RemoteHighFine,
+    RemoteLow,
+    RemoteLowFine,
+    RemoteOffset,
+    RemoteOffsetFine,
+    RemoteTherm,
 }
 
 // What a command names when it is read.

@@ -1,45 +1,38 @@
-// One chip's state. No field is an array. The configuration, the fine bytes, the values, the address and the run count are numbers
-// that can hold what code 6 refuses.
+// One chip's state, and the values that are taken out of it. A state holds numbers and flags only: a channel is taken out as a value,
+// and put back field by field. The registers, the values, the address and the run count can hold what code 6 refuses.
 
 // What is given when a state is made, and kept by a reset.
 pub struct Given {
     pub address: u8,
 }
 
-// What the bus wrote for one channel. The local channel has no fine bytes and no offset: its are 0.
-pub struct Settings {
-    pub high: u8,
-    pub highfine: u8,
-    pub low: u8,
-    pub lowfine: u8,
-    pub offset: u8,
-    pub offsetfine: u8,
-    pub therm: u8,
-}
-
 // A latched status flag beside what its latest comparison found.
-pub struct Latched {
+pub struct Mark {
     pub found: bool,
     pub flag: bool,
 }
 
-// What comparisons leave behind on one channel. The local channel has no diode: its is clear.
-pub struct Marks {
-    pub high: Latched,
-    pub low: Latched,
-    pub diode: Latched,
+// One channel but for its registers: its value, whether it was ever converted, and what comparisons left behind. A channel with no
+// diode has a clear mark of one.
+pub struct ChannelState {
+    pub value: u16,
+    pub converted: bool,
+    pub high: Mark,
+    pub low: Mark,
+    pub diode: Mark,
     pub therm: bool,
 }
 
-pub struct Sensor {
-    pub settings: Settings,
-    pub value: u16,
-    pub converted: bool,
-    pub marks: Marks,
+// What one channel is compared with, in its own codes.
+pub struct Limits {
+    pub high: u16,
+    pub low: u16,
+    pub therm: u16,
+    pub hysteresis: u16,
 }
 
 pub struct State {
-    pub given: Given,
+    pub address: u8,
     pub pointer: u8,
     pub config: u8,
     pub rate: u8,
@@ -48,6 +41,32 @@ pub struct State {
     pub busy: bool,
     pub runs: u8,
     pub latch: bool,
-    pub local: Sensor,
-    pub remote: Sensor,
+    pub localhigh: u8,
+    pub locallow: u8,
+    pub localtherm: u8,
+    pub localvalue: u16,
+    pub localconverted: bool,
+    pub localhighfound: bool,
+    pub localhighflag: bool,
+    pub locallowfound: bool,
+    pub locallowflag: bool,
+    pub localdiodefound: bool,
+    pub localdiodeflag: bool,
+    pub localthermflag: bool,
+    pub remotehigh: u8,
+    pub remotehighfine: u8,
+    pub remotelow: u8,
+    pub remotelowfine: u8,
+    pub remoteoffset: u8,
+    pub remoteoffsetfine: u8,
+    pub remotetherm: u8,
+    pub remotevalue: u16,
+    pub remoteconverted: bool,
+    pub remotehighfound: bool,
+    pub remotehighflag: bool,
+    pub remotelowfound: bool,
+    pub remotelowflag: bool,
+    pub remotediodefound: bool,
+    pub remotediodeflag: bool,
+    pub remotethermflag: bool,
 }

@@ -28,12 +28,16 @@ unfoldable pub answerText : ℕ → ℕ → Bool → Bool → List ℕ
 answerText code reply alert therm =
     ((lineText codeName code ++ lineText replyName reply) ++ lineText alertName (level alert)) ++ lineText thermName (level therm)
 
--- a text put at the front of what is lent; where it does not fit, nothing is written
+-- a text at the front of what is lent, the rest as it was
+abbrev pub put : List ℕ → List ℕ → List ℕ
+put text before = text ++ drop (length text) before
+
+-- the same, and how long the text is; where it does not fit, nothing is written
 abbrev pub wroteOf : List ℕ → List ℕ → Wrote
 wroteOf text before = cond (leb (length text) (length before)) (Bytes (length text)) NoRoom
 
 abbrev pub putOf : List ℕ → List ℕ → List ℕ
-putOf text before = cond (leb (length text) (length before)) (text ++ drop (length text) before) before
+putOf text before = cond (leb (length text) (length before)) (put text before) before
 
 -- what a writer promises
 pub record Put (text before after : List ℕ) (r : Wrote) : Type 0 where
@@ -44,4 +48,4 @@ pub record Put (text before after : List ℕ) (r : Wrote) : Type 0 where
 pub record Front (text before after : List ℕ) (n : ℕ) : Type 0 where
   pub room : length text ≤ length before
   pub count : n ≡ length text
-  pub bytes : after ≡ text ++ drop (length text) before
+  pub bytes : after ≡ put text before

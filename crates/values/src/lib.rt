@@ -2,7 +2,8 @@
 ghost use mathlib.Core.Path.{_≡_};
 ghost use Prim.Native.Nat.{_≤_};
 ghost use lib.IntN.{pos, _+ℤ_};
-ghost use Rattle.rules.specs.Values.{scaleOf, offsetOf, topOf, shiftOf, clampOf, codeOf, highByteOf, lowByteOf};
+ghost use Rattle.rules.specs.Channels.{scaleOf};
+ghost use Rattle.rules.specs.Values.{offsetOf, topOf, shiftOf, clampOf, codeOf, highByteOf, lowByteOf};
 use rules::register::Channel;
 
 // The codes to a degree. Its bounds are for callers, whose products and divisions rest on them.

@@ -1,12 +1,11 @@
 -- `chip::step` meets its contract: code 6 first, then what the check gives. Assumes nothing.
-use mir.Facts.{toZ-ofZ}
 use Rattle.rules.specs.Step.{stepOf}
 use Rattle.chip.proofs.step.Statement.{statement}
 use Rattle.chip.proofs.step.Tie as tie
 
 returns : tie.Need-returns
 unfolding stepOf
-returns c = rw (c .checked .ensures, c .before .check .ensures, toZ-ofZ (c .before .before .before .before .fits .kind), toZ-ofZ (c .before .before .before .before .fits .a), toZ-ofZ (c .before .before .before .before .fits .b), toZ-ofZ (c .before .before .before .before .fits .c), ← c .before .before .before .well-formed .ensures, c .before .before .if1 .taken)
+returns c = rw (c .checked .ensures, c .before .check .ensures, ← c .before .before .before .well-formed .ensures, c .before .before .if1 .taken)
 
 returns-2 : tie.Need-returns-2
 unfolding stepOf

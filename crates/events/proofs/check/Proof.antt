@@ -1,118 +1,16 @@
--- `events::check` meets its contract: in each arm the kind is its number, and the rules follow from what the calls ensure.
+-- `events::check` meets its contract, by what `kind_of` ensures: each of the four numbers fits, so it is what its bits are.
 -- Assumes nothing.
-use mathlib.Core.Path.{_≡_, refl}
-use mathlib.Core.Logic.{_≢_}
-use Prim.Native.Nat.{ℕ}
-use lib.IntN.{ℤ}
-use lib.IntN.ℤ.{pos, negsuc}
-use mir.Syntax.{w16, w32}
-use mir.Val.{SFits, ofZ}
-use mir.Facts.{toZ-ofZ}
-use borrow.Author.Tests.{ne-eqb}
-use Rattle.rules.proofs.Match.{key}
-use Rattle.rules.specs.Event.{checkOf}
-use Rattle.rules.specs.declared.event.Checked.the-variants.{Bad}
+use mir.Syntax.{w32}
+use Rattle.rules.proofs.Match.{field}
 use Rattle.events.proofs.check.Statement.{statement}
 use Rattle.events.proofs.check.Tie as tie
 
--- the kind's bits are no arm's number, in the form in which the match leaves it
-abbrev Other : ℕ → Type 0
-Other n =
-    ((((((((Unit × n ≢ 0) × n ≢ 1) × n ≢ 2) × n ≢ 3) × n ≢ 4) × n ≢ 5) × n ≢ 6) × n ≢ 7)
-
-other : (x a b c : ℤ) → Other (ofZ w32 x) → Bad 1 ≡ checkOf x a b c
-other (pos n) a b c p =
-    simp (ne-eqb n 0 (p .0 .0 .0 .0 .0 .0 .0 .1), ne-eqb n 1 (p .0 .0 .0 .0 .0 .0 .1), ne-eqb n 2 (p .0 .0 .0 .0 .0 .1), ne-eqb n 3 (p .0 .0 .0 .0 .1), ne-eqb n 4 (p .0 .0 .0 .1), ne-eqb n 5 (p .0 .0 .1), ne-eqb n 6 (p .0 .1), ne-eqb n 7 (p .1))
-other (negsuc n) a b c p = refl
-
 returns : tie.Need-returns
 returns c =
-    let s = c .before .before .before .fits in
-    simp (key (s .kind) (c .before .before .match .keys1), c .good-if .ensures, c .before .fields .ensures, toZ-ofZ (s .a), toZ-ofZ (s .b), toZ-ofZ (s .c))
-
-returns-2 : tie.Need-returns-2
-returns-2 c =
-    let s = c .before .before .before .before .before .fits in
-    simp (key (s .kind) (c .before .before .before .before .match .keys2), c .good-if2 .ensures, c .before .byte2 .ensures, c .before .before .byte .ensures, c .before .before .before .fields2 .ensures, toZ-ofZ (s .a), toZ-ofZ (s .b), toZ-ofZ (s .c))
-
-returns-3 : tie.Need-returns-3
-returns-3 c =
-    let s = c .before .before .before .before .before .before .fits in
-    simp (key (s .kind) (c .before .before .before .before .before .match .keys3), c .good-if3 .ensures, c .before .byte5 .ensures, c .before .before .byte4 .ensures, c .before .before .before .byte3 .ensures, c .before .before .before .before .fields3 .ensures, toZ-ofZ (s .a), toZ-ofZ (s .b), toZ-ofZ (s .c))
-
-returns-4 : tie.Need-returns-4
-returns-4 c =
-    let s = c .before .before .before .before .before .fits in
-    simp (key (s .kind) (c .before .before .before .before .match .keys4), c .good-if4 .ensures, c .before .byte7 .ensures, c .before .before .byte6 .ensures, c .before .before .before .fields4 .ensures, toZ-ofZ (s .a), toZ-ofZ (s .b), toZ-ofZ (s .c))
-
-returns-5 : tie.Need-returns-5
-returns-5 c =
-    let s = c .before .before .before .before .fits in
-    simp (key (s .kind) (c .before .before .before .match .keys5), c .good-if5 .ensures, c .before .byte8 .ensures, c .before .before .fields5 .ensures, toZ-ofZ (s .a), toZ-ofZ (s .b), toZ-ofZ (s .c))
-
-returns-6 : tie.Need-returns-6
-returns-6 c =
-    let s = c .before .before .before .fits in
-    simp (key (s .kind) (c .before .before .match .keys6), c .good-if6 .ensures, c .before .fields6 .ensures, toZ-ofZ (s .a), toZ-ofZ (s .b), toZ-ofZ (s .c))
-
-returns-7 : tie.Need-returns-7
-returns-7 c =
-    let s = c .before .before .before .fits in
-    simp (key (s .kind) (c .before .before .match .keys7), c .good-if7 .ensures, c .before .fields7 .ensures, toZ-ofZ (s .a), toZ-ofZ (s .b), toZ-ofZ (s .c))
-
--- the samples stand in the event by their bits, so those are read back before the calls' own facts are used
-returns-8 : tie.Need-returns-8
-returns-8 c =
-    let s = c .before .before .before .before .before .before .before .before .fits in
-    let h : SFits w16 (c .before .before .before .sample .result) = record { sfits = c .before .before .before .sample .ok } in
-    let h2 : SFits w16 (c .before .before .sample2 .result) = record { sfits = c .before .before .sample2 .ok } in
-    rw (c .good-if8 .ensures, toZ-ofZ h, toZ-ofZ h2)
-    (simp (key (s .kind) (c .before .before .before .before .before .before .before .match .keys8), c .before .byte9 .ensures, c .before .before .sample2 .ensures, c .before .before .before .sample .ensures, c .before .before .before .before .within3 .ensures, c .before .before .before .before .before .within2 .ensures, c .before .before .before .before .before .before .within .ensures, toZ-ofZ (s .a), toZ-ofZ (s .b), toZ-ofZ (s .c)))
-
-returns-9 : tie.Need-returns-9
-returns-9 c =
-    let x = c .before .args in
-    other (x .kind) (x .a) (x .b) (x .c) (c .match .rest)
+    let e = c .before .before .before .before .before .args .e in
+    let g = c .before .struct-told4 .given in
+    rw (c .kind-of .ensures)
+    (simp (field w32 (e .kind) (g .0 .1), field w32 (e .a) (g .1 .0 .1), field w32 (e .b) (g .1 .1 .0 .1), field w32 (e .c) (g .1 .1 .1 .0 .1)))
 
 pub check-spec : {M : Type 1} → statement M
-check-spec =
-    tie.close
-    (tie.spec
-    (λ c κs. tt)
-    (λ c κs. tt)
-    (λ c κs. tt)
-    (λ c κs. tt)
-    (λ c κs. tt)
-    (λ c κs. tt)
-    (λ c κs. tt)
-    (λ c κs. tt)
-    (λ c κs. tt)
-    (λ c κs. tt)
-    (λ c κs. tt)
-    (λ c κs. tt)
-    (λ c κs. tt)
-    (λ c κs. tt)
-    (λ c κs. tt)
-    (λ c κs. tt)
-    (λ c κs. tt)
-    (λ c κs. tt)
-    (λ c κs. tt)
-    (λ c κs. tt)
-    (λ c κs. tt)
-    (λ c κs. tt)
-    (λ c κs. tt)
-    (λ c κs. tt)
-    (λ c κs. tt)
-    (λ c κs. tt)
-    (λ c κs. tt)
-    (λ c κs. tt)
-    (λ c κs. tt)
-    returns
-    returns-2
-    returns-3
-    returns-4
-    returns-5
-    returns-6
-    returns-7
-    returns-8
-    returns-9)
+check-spec = tie.close (tie.spec (λ c κs. tt) returns)

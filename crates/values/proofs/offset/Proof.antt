@@ -1,33 +1,18 @@
 -- `values::offset` meets its contract: from 128 on, the high byte's 256 less are 1024 less in quarters. Assumes nothing.
-use mathlib.Core.Path.{_≡_}
-use Prim.Native.Nat.{ℕ, suc, _+_, _*_, _-_, _/_, _<_}
+use mathlib.Core.Path.{_≡_, sym}
+use Prim.Native.Nat.{_+_, _*_, _/_}
 use native.Mathlib.Omega.{arith}
-use lib.IntN.{ℤ, subℕ, _+ℤ_, _-ℤ_, _*ℤ_}
+use lib.IntN.{_-ℤ_}
 use lib.IntN.ℤ.{pos, negsuc}
 use mir.Syntax.{w16}
 use mir.Val.{SFits, toZ}
 use mir.ValLaws.{toZ-pos}
 use mir.Facts.{toZ-ofZ}
 use borrow.Author.Needs.{needs}
-use borrow.Author.Tests.{lt-ltb, le-ltb}
-use Rattle.rules.specs.Values.{offsetOf}
+use Rattle.rules.proofs.Meant.{offsets-mean}
 use Rattle.values.proofs.Laws.{mag-sum}
 use Rattle.values.proofs.offset.Statement.{statement}
 use Rattle.values.proofs.offset.Tie as tie
-
--- a difference that is negative
-less : (a b : ℕ) → a < b → subℕ a b ≡ negsuc (b - suc a)
-less a b h = simp (lt-ltb a b h)
-
-fourfold : (m : ℕ) → negsuc m *ℤ pos 4 ≡ negsuc (m * 4 + 3)
-fourfold m = let e : suc m * 4 ≡ suc (m * 4 + 3) = omega arith in rw e
-
-negative : (high f : ℕ) → high < 256 → f < 4 → pos (high * 4 + f) -ℤ pos 1024 ≡ (pos high -ℤ pos 256) *ℤ pos 4 +ℤ pos f
-negative high f h g =
-    let k : high * 4 + f < 1024 = omega arith in
-    let l : f < suc ((256 - suc high) * 4 + 3) = omega arith in
-    let e : 1024 - suc (high * 4 + f) ≡ suc ((256 - suc high) * 4 + 3) - suc f = omega arith in
-    rw (less (high * 4 + f) 1024 k, less high 256 h, fourfold (256 - suc high), less f (suc ((256 - suc high) * 4 + 3)) l, e)
 
 mul-quarters : tie.Need-mul-quarters
 mul-quarters c = search needs
@@ -53,14 +38,12 @@ sub-result : tie.Need-sub-result
 sub-result c = rw (plain (c .before)) (fits (c .before))
 
 returns : tie.Need-returns
-unfolding offsetOf
-returns c = rw (plain (c .before)) (simp (lt-ltb _ _ (c .if1 .taken)))
+returns c = rw (plain (c .before)) (sym (offsets-mean (c .before .args .high) (c .before .args .fine) .plain (c .if1 .taken)))
 
 returns-2 : tie.Need-returns-2
-unfolding offsetOf
 returns-2 c =
-    rw (plain (c .before), toZ-ofZ (fits (c .before)), le-ltb _ _ (c .if1 .left))
-    (negative (c .before .args .high) (c .before .args .fine / 64) (omega arith) (omega arith))
+    rw (plain (c .before), toZ-ofZ (fits (c .before)))
+    (sym (offsets-mean (c .before .args .high) (c .before .args .fine) .negative (c .if1 .left) (omega arith) (omega arith)))
 
 pub offset-spec : {M : Type 1} → statement M
 offset-spec =

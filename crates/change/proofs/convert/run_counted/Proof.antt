@@ -1,9 +1,14 @@
 -- `change::convert::run_counted` meets its contract by its callees'. Assumes nothing.
+use mathlib.Core.Path.{_∙_, ap}
+use Rattle.rules.specs.Runs.{runsOf}
+use Rattle.rules.specs.State.{withRuns}
 use Rattle.change.proofs.convert.run_counted.Statement.{statement}
 use Rattle.change.proofs.convert.run_counted.Tie as tie
 
 returns : tie.Need-returns
-returns c = rw (c .before .before .before .counted .ensures, c .before .before .before .before .fault2 .ensures, c .before .before .before .before .before .fault .ensures)
+returns c =
+    let s = c .before .before .args .s in
+    ap (withRuns s) (c .counted .ensures ∙ ap (runsOf (s .runs)) (c .before .any-fault .ensures))
 
 pub run-counted-spec : {M : Type 1} → statement M
-run-counted-spec = tie.close (tie.spec (λ c κs. tt) (λ c κs. tt) (λ c κs. tt) returns)
+run-counted-spec = tie.close (tie.spec (λ c κs. tt) (λ c κs. tt) returns)

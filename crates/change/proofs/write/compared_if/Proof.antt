@@ -1,4 +1,4 @@
--- `change::write::compared_if` meets its contract, by what the test's calls ensure. Assumes nothing.
+-- `change::write::compared_if` meets its contract, by what the test's call ensures. Assumes nothing.
 use Rattle.change.proofs.write.compared_if.Statement.{statement}
 use Rattle.change.proofs.write.compared_if.Tie as tie
 

@@ -3,7 +3,7 @@ use Rattle.change.proofs.write.stopped_if.Statement.{statement}
 use Rattle.change.proofs.write.stopped_if.Tie as tie
 
 returns : tie.Need-returns
-returns c = rw (← c .before .before .before .before .is-standby2 .ensures, ← c .before .before .before .before .before .is-standby .ensures, c .before .before .before .if1 .taken)
+returns c = rw (← c .before .is-standby2 .ensures, ← c .before .before .is-standby .ensures, c .if1 .taken)
 
 returns-2 : tie.Need-returns-2
 returns-2 c = rw (← c .before .is-standby2 .ensures, ← c .before .before .is-standby .ensures, c .if1 .left)

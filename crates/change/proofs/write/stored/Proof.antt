@@ -1,11 +1,17 @@
 -- `change::write::stored` meets its contract by its callees'. Assumes nothing.
-use Rattle.rules.specs.Write.{stored}
+use mathlib.Core.Path.{_∙_, ap, ap₂}
+use Rattle.rules.specs.State.{withStored}
+use Rattle.rules.specs.Write.{comparedIf, stoppedIf, stored}
 use Rattle.change.proofs.write.stored.Statement.{statement}
 use Rattle.change.proofs.write.stored.Tie as tie
 
 returns : tie.Need-returns
 unfolding stored
-returns c = rw (c .compared-if .ensures, c .before .stopped-if .ensures, c .before .before .with-stored .ensures, c .before .before .before .trim .ensures, c .before .before .before .before .write-compares .ensures)
+returns c =
+    let a = c .before .before .before .before .before .args in
+    let put = c .before .before .with-stored .ensures ∙ ap (withStored (a .s) (a .register)) (c .before .before .before .trim .ensures) in
+    let stopped = c .before .stopped-if .ensures ∙ ap (stoppedIf (a .s .config)) put in
+    c .compared-if .ensures ∙ ap₂ comparedIf (c .before .before .before .before .compares .ensures) stopped
 
 pub stored-spec : {M : Type 1} → statement M
 stored-spec = tie.close (tie.spec (λ c κs. tt) (λ c κs. tt) (λ c κs. tt) (λ c κs. tt) (λ c κs. tt) returns)

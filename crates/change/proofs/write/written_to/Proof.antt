@@ -1,5 +1,4 @@
 -- `change::write::written_to` meets its contract by its callees'. Assumes nothing.
-use borrow.Author.Needs.{needs}
 use Rattle.change.proofs.write.written_to.Statement.{statement}
 use Rattle.change.proofs.write.written_to.Tie as tie
 
@@ -16,11 +15,11 @@ pub written-to-spec : {M : Type 1} → statement M
 written-to-spec =
     tie.close
     (tie.spec
-    (λ c. search needs)
+    (λ c. c .match .keys1)
     (λ c κs. tt)
-    (λ c. search needs)
+    (λ c. c .match .keys2)
     (λ c κs. tt)
-    (λ c. search needs)
+    (λ c. c .match .keys3)
     returns
     returns-2
     returns-3)

@@ -1,8 +1,4 @@
--- `chip::event::apply` meets its contract, form by form: the samples are read back from their bits. Assumes nothing.
-use mir.Syntax.{w16}
-use mir.Val.{SFits}
-use mir.Facts.{toZ-ofZ}
-use borrow.Author.Needs.{needs}
+-- `chip::event::apply` meets its contract, form by form. Assumes nothing.
 use Rattle.rules.specs.Step.{applyOf}
 use Rattle.chip.proofs.event.apply.Statement.{statement}
 use Rattle.chip.proofs.event.apply.Tie as tie
@@ -37,38 +33,34 @@ returns-7 c = rw (c .start .ensures, c .before .enum-told3 .given .1)
 
 returns-8 : tie.Need-returns-8
 unfolding applyOf
-returns-8 c =
-    let v = c .before .before .e5 .given .0 in
-    let l : SFits w16 (v .0) = record { sfits = c .before .known-told5 .given .0 .1 } in
-    let r : SFits w16 (v .1 .0) = record { sfits = c .before .known-told5 .given .1 .0 .1 } in
-    rw (c .end .ensures, toZ-ofZ l, toZ-ofZ r, c .before .before .e5 .given .1)
+returns-8 c = rw (c .end .ensures, c .before .before .e5 .given .1)
 
 pub apply-spec : {M : Type 1} → statement M
 apply-spec =
     tie.close
     (tie.spec
-    (λ c. search needs)
+    (λ c. c .match .keys1)
     (λ c κs. tt)
-    (λ c. search needs)
-    (λ c κs. tt)
-    (λ c κs. tt)
-    (λ c κs. tt)
-    (λ c. search needs)
+    (λ c. c .match .keys2)
     (λ c κs. tt)
     (λ c κs. tt)
     (λ c κs. tt)
-    (λ c. search needs)
+    (λ c. c .match .keys3)
     (λ c κs. tt)
     (λ c κs. tt)
     (λ c κs. tt)
-    (λ c. search needs)
+    (λ c. c .match .keys4)
     (λ c κs. tt)
     (λ c κs. tt)
-    (λ c. search needs)
     (λ c κs. tt)
-    (λ c. search needs)
+    (λ c. c .match .keys5)
     (λ c κs. tt)
-    (λ c. search needs)
+    (λ c κs. tt)
+    (λ c. c .match .keys6)
+    (λ c κs. tt)
+    (λ c. c .match .keys7)
+    (λ c κs. tt)
+    (λ c. c .match .keys8)
     (λ c κs. tt)
     returns
     returns-2

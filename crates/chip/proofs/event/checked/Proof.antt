@@ -1,5 +1,4 @@
 -- `chip::event::checked` meets its contract by its callees'. Assumes nothing.
-use borrow.Author.Needs.{needs}
 use Rattle.chip.proofs.event.checked.Statement.{statement}
 use Rattle.chip.proofs.event.checked.Tie as tie
 
@@ -13,9 +12,9 @@ pub checked-spec : {M : Type 1} → statement M
 checked-spec =
     tie.close
     (tie.spec
-    (λ c. search needs)
+    (λ c. c .match .keys1)
     (λ c κs. tt)
-    (λ c. search needs)
+    (λ c. c .match .keys2)
     (λ c κs. tt)
     returns
     returns-2)

@@ -1,12 +1,11 @@
 -- `chip::event::end` meets its contract, by whether a conversion runs. Assumes nothing.
-use mir.Facts.{toZ-ofZ}
 use Rattle.rules.specs.Step.{endOf}
 use Rattle.chip.proofs.event.end.Statement.{statement}
 use Rattle.chip.proofs.event.end.Tie as tie
 
 returns : tie.Need-returns
 unfolding endOf
-returns c = rw (c .done .ensures, c .before .silent .ensures, c .before .before .converted .ensures, toZ-ofZ (c .before .before .before .before .fits .local), toZ-ofZ (c .before .before .before .before .fits .remote), c .before .before .before .if1 .taken)
+returns c = rw (c .done .ensures, c .before .silent .ensures, c .before .before .converted .ensures, c .before .before .before .if1 .taken)
 
 returns-2 : tie.Need-returns-2
 unfolding endOf

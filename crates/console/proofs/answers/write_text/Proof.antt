@@ -1,4 +1,5 @@
--- `console::answers::write_text` meets its contract: by the laws of the text's two ways, at what its calls ensure. Assumes nothing.
+-- `console::answers::write_text` meets its contract by the laws of the text's two ways, at what its calls ensure.
+-- Assumes nothing.
 use Prim.Native.Nat.{_≤_}
 use native.Mathlib.Omega.{arith}
 use lib.ListN.{length}

@@ -1,14 +1,12 @@
--- `replay::play::play` meets its contract: each turn keeps the invariant `Mid`, and each way out is a law of it. A record uses 19 bytes or
--- more, so what is left of the trace falls. Assumes nothing.
-use Prim.Native.Nat.{_+_, _-_}
+-- `replay::play::play` meets its contract: each turn keeps the invariant `Mid`, and each way out is a law of it. A record uses 19
+-- bytes or more, so what is left of the trace falls. Assumes nothing.
+use Prim.Native.Nat.{_-_}
 use native.Mathlib.Omega.{arith}
 use mathlib.Core.Path.{ap, _∙_}
 use lib.ListN.{length}
 use borrow.Author.Needs.{needs}
 use Rattle.text.proofs.Put.{front-held, front-length}
-use Rattle.replay.proofs.Plays.{Mid, back, from, mid-end, mid-same, mid-start, mid-step, mid-stop, turn-long}
-use Rattle.replay.specs.Play.{Turned}
-use Rattle.replay.specs.declared.play.Turn.the-variants.{Went, Stopped}
+use Rattle.replay.proofs.Plays.{Mid, mid-end, mid-same, mid-start, mid-step, mid-stop, turn-long}
 use Rattle.replay.proofs.play.play.Statement.{statement}
 use Rattle.replay.proofs.play.play.Tie as tie
 
@@ -22,28 +20,36 @@ abbrev μ-loop : tie.MeasureT-loop
 loop-holds : tie.Need-loop-holds Inv-loop μ-loop
 loop-holds c = mid-start _ _ _
 
--- a turn that went on, and one that was stopped
-turned : (c : tie.After-known-told Inv-loop μ-loop) → Turned (c .before .before .before .before .before .before .before .before .before .loop .state) (from (c .before .before .before .before .before .before .before .before .before .loop .used) (c .before .before .before .before .before .before .before .before .before .before .before .before .args .trace .now)) (from (c .before .before .before .before .before .before .before .before .before .loop .written) (c .before .before .before .before .before .before .before .before .before .loop .out)) (c .before .before .before .before .before .take-turn .last .1 .1 .0) (Went (c .before .after .given .0 .0) (c .before .after .given .0 .1 .0) (c .before .after .given .0 .1 .1 .0))
-turned c = rw (c .before .after .given .1) at (c .before .before .before .before .before .take-turn .ensures)
-
-later : (c : tie.After-known-told Inv-loop μ-loop) → Mid (c .before .before .before .before .before .before .before .before .before .before .before .before .args .s) (c .before .before .before .before .before .before .before .before .before .before .before .before .args .trace .now) (c .before .before .before .before .before .before .before .before .before .before .before .before .args .out .now) (back (c .before .before .before .before .before .before .before .before .before .loop .written) (c .before .before .before .before .before .before .before .before .before .loop .out) (c .before .before .before .before .before .take-turn .last .1 .1 .0)) (c .before .after .given .0 .0) (c .before .before .before .before .before .before .before .before .before .loop .records + 1) (c .before .before .before .before .before .before .before .before .before .loop .used + c .before .after .given .0 .1 .0) (c .before .before .before .before .before .before .before .before .before .loop .written + c .before .after .given .0 .1 .1 .0)
-later c = mid-step (c .before .before .before .before .before .before .before .before .before .loop .inv) (c .before .before .before .before .before .before .before .before .loop-test .taken) (turned c)
-
-stopped : (c : tie.After-known-told2 Inv-loop μ-loop) → Turned (c .before .before .before .before .before .before .before .before .before .loop .state) (from (c .before .before .before .before .before .before .before .before .before .loop .used) (c .before .before .before .before .before .before .before .before .before .before .before .before .args .trace .now)) (from (c .before .before .before .before .before .before .before .before .before .loop .written) (c .before .before .before .before .before .before .before .before .before .loop .out)) (c .before .before .before .before .before .take-turn .last .1 .1 .0) (Stopped (c .before .code .given .0 .0))
-stopped c = rw (c .before .code .given .1) at (c .before .before .before .before .before .take-turn .ensures)
-
 -- the part that is lent begins inside
 part-take-turn-start-2 : tie.Need-part-take-turn-start-2 Inv-loop μ-loop
 part-take-turn-start-2 c = front-held (c .before .before .loop .inv .front)
 
+-- from behind a turn: the loop's own place, and the start
+abbrev top : tie.After-take-turn Inv-loop μ-loop → tie.At-loop Inv-loop μ-loop
+top at = at .before .before .before .before
+
+abbrev start : tie.After-known-told Inv-loop μ-loop → tie.Start Inv-loop μ-loop
+start c = top (c .before .before .before .before .before) .before .before .before
+
 loop-again : tie.Need-loop-again Inv-loop μ-loop
-loop-again c = later c
+loop-again c =
+    let at = c .before .before .before .before .before in
+    mid-step (top at .loop .inv) (at .before .before .before .loop-test .taken) (at .take-turn .ensures) (c .before .after .given .1)
+
+loop-less : tie.Need-loop-less Inv-loop μ-loop
+loop-less c =
+    let at = c .before .before .before .before .before in
+    omega (arith, loop-again c .inside, turn-long (top at .loop .inv) (at .before .before .before .loop-test .taken) (at .take-turn .ensures) (c .before .after .given .1))
 
 same-length : tie.Need-same-length Inv-loop μ-loop
-same-length c = ap length (mid-same (c .before .before .before .before .before .before .before .before .before .loop .inv) (c .before .before .before .before .before .before .before .before .loop-test .taken) (stopped c)) ∙ front-length (c .before .before .before .before .before .before .before .before .before .loop .inv .front)
+same-length c =
+    let at = c .before .before .before .before .before in
+    ap length (mid-same (top at .loop .inv) (at .before .before .before .loop-test .taken) (at .take-turn .ensures) (c .before .code .given .1)) ∙ front-length (top at .loop .inv .front)
 
 returns : tie.Need-returns Inv-loop μ-loop
-returns c = mid-stop (c .before .before .before .before .before .before .before .before .before .loop .inv) (c .before .before .before .before .before .before .before .before .loop-test .taken) (stopped c)
+returns c =
+    let at = c .before .before .before .before .before in
+    mid-stop (top at .loop .inv) (at .before .before .before .loop-test .taken) (at .take-turn .ensures) (c .before .code .given .1)
 
 same-length-2 : tie.Need-same-length-2 Inv-loop μ-loop
 same-length-2 c = front-length (c .before .loop .inv .front)
@@ -66,10 +72,10 @@ play-spec =
     (λ c. search needs)
     (λ c κs. search needs)
     (λ c. search needs)
-    (λ c. omega (arith, later c .few, later c .inside, c .before .before .before .before .before .before .before .before .before .before .before .before .good))
-    (λ c. omega (arith, later c .inside, c .before .before .before .before .before .before .before .before .before .before .before .before .good))
-    (λ c. omega (arith, front-held (later c .front), front-length (later c .front), c .before .before .before .before .before .before .before .before .before .before .before .before .good))
-    (λ c. omega (arith, later c .inside, turn-long (c .before .before .before .before .before .before .before .before .before .loop .inv) (c .before .before .before .before .before .before .before .before .loop-test .taken) (turned c)))
+    (λ c. omega (arith, loop-again c .few, loop-again c .inside, start c .good))
+    (λ c. omega (arith, loop-again c .inside, start c .good))
+    (λ c. omega (arith, front-held (loop-again c .front), front-length (loop-again c .front), start c .good))
+    loop-less
     loop-again
     (λ c. search needs)
     same-length

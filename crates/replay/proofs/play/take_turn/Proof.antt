@@ -1,14 +1,12 @@
--- `replay::play::take_turn` meets its contract: the laws of a turn, at what its three calls ensure. A record's numbers are read back from
--- their bits. Assumes nothing.
+-- `replay::play::take_turn` meets its contract: the laws of a turn, at what its three calls ensure. A record's numbers are read
+-- back from their bits. Assumes nothing.
 use mathlib.Core.Path.{_≡_, refl, sym, _∙_}
 use mathlib.Core.List.{List}
 use Prim.Native.Nat.{ℕ}
 use borrow.Author.Needs.{needs}
-use Rattle.rules.specs.declared.state.State.{State}
 use Rattle.text.specs.declared.record.Record.{Record}
 use Rattle.text.specs.declared.record.Parsed.the-variants.{Whole}
 use Rattle.text.specs.Record.{recordOf}
-use Rattle.text.proofs.Put.{put-length}
 use Rattle.text.proofs.Records.{Small, record-small}
 use Rattle.text.proofs.Signed.{kept}
 use Rattle.replay.specs.Play.{answerTo, textOf}
@@ -26,9 +24,9 @@ record-of c = c .r .given .0 .0
 read : (c : tie.After-r) → recordOf (part c) ≡ Whole (record-of c) (c .r .given .0 .1 .0)
 read c = sym (c .before .before .read-record .ensures) ∙ c .r .given .1
 
-stepped : (c : tie.After-step) → c .step .result ≡ answerTo (c .before .before .before .before .before .before .before .before .before .before .before .args .s) (record-of (c .before .before .before .before .before .before))
+stepped : (c : tie.After-step) → c .step .result ≡ answerTo (c .before .before .before .before .before .before .before .before .args .s) (record-of (c .before .before .before))
 stepped c =
-    let at = c .before .before .before .before .before .before in
+    let at = c .before .before .before in
     let r = record-of at in
     let small : Small r = record-small (part at) (read at) in
     rw (kept (r .kind) (small .kind), kept (r .a) (small .a), kept (r .b) (small .b), kept (r .c) (small .c)) at (c .step .ensures)
@@ -39,12 +37,14 @@ returns c = turn-bad (c .before .read-record .ensures) (c .match .keys2) refl
 returns-2 : tie.Need-returns-2
 unfolding textOf
 returns-2 c =
-    turn-went (read (c .before .before .before .before .before .before .before .before .before .before .before .before .before .before)) (stepped (c .before .before .before .before .before .before .before .before)) (c .before .before .before .before .before .before .write-answer .ensures) (c .before .before .wrote .given .1)
+    let at = c .before .before .before .before .before .before .before .before in
+    turn-went (read (at .before .before .before)) (stepped at) (c .before .before .before .before .before .before .write-answer .ensures) (c .before .before .wrote .given .1)
 
 returns-3 : tie.Need-returns-3
 unfolding textOf
 returns-3 c =
-    turn-full (read (c .before .before .before .before .before .before .before .before .before .before .before .before)) (stepped (c .before .before .before .before .before .before)) (c .before .before .before .before .write-answer .ensures) (c .enum-told .given .1)
+    let at = c .before .before .before .before .before .before in
+    turn-full (read (at .before .before .before)) (stepped at) (c .before .before .before .before .write-answer .ensures) (c .enum-told .given .1)
 
 pub take-turn-spec : {M : Type 1} → statement M
 take-turn-spec =

@@ -1,8 +1,8 @@
--- `replay::report::write_report` meets its contract: the 16 bytes are the four words', and nothing of the report is left behind them.
--- Assumes nothing.
+-- `replay::report::write_report` meets its contract: the 16 bytes are the four words', and nothing of the report is left behind
+-- them. Assumes nothing.
 use mathlib.Core.Path.{_∙_}
 use native.Mathlib.Omega.{arith}
-use lib.ListN.{length, drop, drop-of-length-le}
+use lib.ListN.{drop-of-length-le}
 use borrow.Author.Needs.{needs}
 use borrow.Author.Tests.{eq-eqb, ne-eqb}
 use Rattle.replay.proofs.report.write_report.Statement.{statement}

@@ -1,9 +1,0 @@
--- `bank::lines::alert_low` meets its contract by its callees'. Assumes nothing.
-use Rattle.bank.proofs.lines.alert_low.Statement.{statement}
-use Rattle.bank.proofs.lines.alert_low.Tie as tie
-
-returns : tie.Need-returns
-returns c = rw (c .is-therm2 .ensures, c .before .before .is-masked .ensures)
-
-pub alert-low-spec : {M : Type 1} → statement M
-alert-low-spec = tie.close (tie.spec (λ c κs. tt) (λ c κs. tt) returns)

@@ -1,0 +1,34 @@
+// One channel's part of a conversion.
+use crate::compare::compared;
+use crate::compare::verdict;
+use rules::state::ChannelState;
+use rules::state::Limits;
+ghost use mathlib.Core.Path.{_≡_};
+ghost use Rattle.rules.specs.Comparisons.{diodeOf};
+ghost use Rattle.rules.specs.Conversion.{measuredOf, convertedOf};
+
+fn measured(code: u16, c: ChannelState) -> ChannelState
+    ensures { λ r. ⌜ r ≡ measuredOf code c ⌝ }
+{
+    ChannelState {
+        value: code,
+        converted: true,
+        ..c
+    }
+}
+
+fn checked(broken: bool, c: ChannelState) -> ChannelState
+    ensures { λ r. ⌜ r ≡ diodeOf broken c ⌝ }
+{
+    let before = c.diode;
+    ChannelState {
+        diode: verdict(before, broken),
+        ..c
+    }
+}
+
+pub fn converted(l: Limits, code: u16, broken: bool, c: ChannelState) -> ChannelState
+    ensures { λ r. ⌜ r ≡ convertedOf l code broken c ⌝ }
+{
+    checked(broken, compared(l, measured(code, c)))
+}

@@ -1,0 +1,51 @@
+-- `parts::stored::with_stored` meets its contract, register by register. Assumes nothing.
+use borrow.Author.Needs.{needs}
+use Rattle.parts.proofs.stored.with_stored.Statement.{statement}
+use Rattle.parts.proofs.stored.with_stored.Tie as tie
+
+pub with-stored-spec : {M : Type 1} → statement M
+with-stored-spec =
+    tie.close
+    (tie.spec
+    (λ c. search needs)
+    (λ c κs. tt)
+    (λ c. search needs)
+    (λ c κs. tt)
+    (λ c. search needs)
+    (λ c κs. tt)
+    (λ c. search needs)
+    (λ c κs. tt)
+    (λ c. search needs)
+    (λ c κs. tt)
+    (λ c. search needs)
+    (λ c κs. tt)
+    (λ c. search needs)
+    (λ c κs. tt)
+    (λ c. search needs)
+    (λ c κs. tt)
+    (λ c. search needs)
+    (λ c κs. tt)
+    (λ c. search needs)
+    (λ c κs. tt)
+    (λ c. search needs)
+    (λ c κs. tt)
+    (λ c. search needs)
+    (λ c κs. tt)
+    (λ c. search needs)
+    (λ c κs. tt)
+    (λ c. search needs)
+    (λ c κs. tt)
+    (λ c. rw (c .with-config .ensures, c .before .enum-told .given .1))
+    (λ c. rw (c .with-rate .ensures, c .before .enum-told2 .given .1))
+    (λ c. rw (c .with-hysteresis .ensures, c .before .enum-told3 .given .1))
+    (λ c. rw (c .with-consecutive .ensures, c .before .enum-told4 .given .1))
+    (λ c. rw (c .with-local-high .ensures, c .before .enum-told5 .given .1))
+    (λ c. rw (c .with-local-low .ensures, c .before .enum-told6 .given .1))
+    (λ c. rw (c .with-local-therm .ensures, c .before .enum-told7 .given .1))
+    (λ c. rw (c .with-remote-high .ensures, c .before .enum-told8 .given .1))
+    (λ c. rw (c .with-remote-high-fine .ensures, c .before .enum-told9 .given .1))
+    (λ c. rw (c .with-remote-low .ensures, c .before .enum-told10 .given .1))
+    (λ c. rw (c .with-remote-low-fine .ensures, c .before .enum-told11 .given .1))
+    (λ c. rw (c .with-remote-offset .ensures, c .before .enum-told12 .given .1))
+    (λ c. rw (c .with-remote-offset-fine .ensures, c .before .enum-told13 .given .1))
+    (λ c. rw (c .with-remote-therm .ensures, c .before .enum-told14 .given .1)))
