@@ -3,7 +3,8 @@
  *
  *   bench                            holds all to the same answers, then times them
  *   bench --sizes                    each trace: name, longest length, a sixteenth of it
- *   bench --count WHO TRACE BYTES    one replay of at most BYTES of a trace, for a counter of instructions
+ *   bench --count WHO TRACE BYTES    one replay of at most BYTES of a trace, for a counter of instructions; of `events` its records one by
+ *                                    one on a chip in bytes
  */
 #define _POSIX_C_SOURCE 199309L
 #include "dlaveth.h"
@@ -31,6 +32,32 @@ static int32_t copy(int32_t address, const uint8_t *trace, size_t trace_len, uin
     return 0;
 }
 
+/* The trace's records, each handed to a chip in bytes. The reading is this program's and is not what is counted. */
+static int32_t by_event(int32_t address, const uint8_t *trace, size_t trace_len, uint8_t *output, size_t output_len,
+                        uint8_t *report, size_t report_len)
+{
+    uint8_t chip[DLAVETH_CHIP_BYTES], answer[DLAVETH_EVENT_ANSWER_BYTES];
+    int32_t number[4] = { 0 };
+
+    (void)output, (void)output_len, (void)report, (void)report_len;
+    dlaveth_power_on(address, chip, sizeof chip);
+    for (size_t i = 0, line = 0, minus = 0; i < trace_len; i++)
+        if (trace[i] == '-') {
+            minus = 1;
+        } else if (trace[i] >= '0' && trace[i] <= '9') {
+            number[line] = number[line] * 10 + (trace[i] - '0');
+        } else if (trace[i] == '\n') {
+            number[line] = minus ? -number[line] : number[line];
+            minus = 0;
+            if (++line == 4) {
+                dlaveth_event(chip, sizeof chip, number[0], number[1], number[2], number[3], answer, sizeof answer);
+                line = 0;
+                memset(number, 0, sizeof number);
+            }
+        }
+    return DLAVETH_DONE;
+}
+
 typedef struct {
     const char *name, *title;
     replayer *run;
@@ -41,8 +68,9 @@ static const runner runners[] = {
     { "o2", "second -O2", o2_replay },
     { "o3", "second -O3", o3_replay },
     { "copy", "memcpy", copy },
+    { "events", "events", by_event },
 };
-enum { REPLAYERS = 3, RUNNERS = 4 };
+enum { REPLAYERS = 3, RUNNERS = 4, COUNTED = 5 };
 
 /* ---- traces ---- */
 
@@ -250,7 +278,7 @@ static int count(const char *who, const char *where, const char *bytes)
     uint8_t report[DLAVETH_REPORT_BYTES];
     size_t most = (size_t)strtoul(bytes, NULL, 10);
 
-    for (int i = 0; i < RUNNERS; i++)
+    for (int i = 0; i < COUNTED; i++)
         for (int j = 0; j < PLANS; j++)
             if (strcmp(runners[i].name, who) == 0 && strcmp(plans[j].name, where) == 0 && most <= MOST) {
                 text t = make_trace(&plans[j], most);

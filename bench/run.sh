@@ -62,7 +62,7 @@ else
     counter=(valgrind)
 fi
 
-declare -A entry=([project]=replay [o2]=o2_replay [o3]=o3_replay)
+declare -A entry=([project]=replay [o2]=o2_replay [o3]=o3_replay [events]=dlaveth_event)
 
 # Counts one replay: who, trace, bytes at most. Sets bytes, records, total; $out/WHO-TRACE-BYTES.out has the count of each address.
 count() {
@@ -91,6 +91,14 @@ while read -r trace longest sixteenth <&3; do
         small[$who-$trace]=$total
         printf '%-8s %-8s %10s %9s %12s %10s %10s\n' "$trace" "$who" "$bytes" "$records" "$total" "$(per "$total" "$bytes")" "$(per "$total" "$records")"
     done
+done 3<"$out/sizes"
+
+echo
+echo "== Instructions in one dlaveth_event, the trace's records one by one on a chip in bytes"
+while read -r trace longest sixteenth <&3; do
+    if [[ $trace == short ]]; then sixteenth=$longest; fi
+    count events "$trace" "$sixteenth"
+    printf '%-8s %9s %12s %10s\n' "$trace" "$records" "$total" "$(per "$total" "$records")"
 done 3<"$out/sizes"
 
 echo

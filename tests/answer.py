@@ -302,12 +302,12 @@ def built_first(room):
         shutil.copy(TOOLS / name, room / "tools")
     kit = room / "kit" / "on" / os.uname().machine / "toolchain" / "lib"
     kit.mkdir(parents=True)
-    for path, text in (room / "bin" / "rt", 'case $1 in doc) echo "$ROOM/kit/doc/x"; exit ;; staticlib) file=staticlib/libreplay.a ;; check) file=bin/console ;; esac\n'
+    for path, text in (room / "bin" / "rt", 'case $1 in doc) echo "$ROOM/kit/doc/x"; exit ;; staticlib) file=staticlib/libdlaveth.a ;; check) file=bin/console ;; esac\n'
                        'mkdir -p "target/${file%/*}"\ntouch "target/$file"\n'), (kit / "ld-linux-x86-64.so.2", "cat\n"):
         path.write_text("#!/bin/sh\n" + text)
         path.chmod(0o755)
     more = {"cwd": room, "env": os.environ | {"PATH": f"{room / 'bin'}:{os.environ['PATH']}", "ROOM": str(room)}}
-    for what, made, words in [("library", "staticlib/libreplay.a", ["bash", "-c", "set -euo pipefail; . tools/x86.sh"]),
+    for what, made, words in [("library", "staticlib/libdlaveth.a", ["bash", "-c", "set -euo pipefail; . tools/x86.sh"]),
                               ("small program", "bin/console", [room / "tools" / "replay.sh"])]:
         line = f"proving and building the {what}: some three minutes at the first run\r\n"
         have = at_terminal(words, **more), at_terminal(words, **more)

@@ -22,3 +22,21 @@ def unfit(log, at=()):
     if at and not any(f"/{place}:" in line and ": error" in line for line in errors for place in at):
         return f"no error in {' or '.join(at)}"
     return ""
+
+
+# The proofs of a crate without functions that hold its definitions to what document 01 says: tables that are computed, and claims in other words.
+# The other files are laws, which restate a definition: one that changes breaks them, whether or not what is claimed is still true.
+SAYING = {
+    "rules": ["Tables", "Meant", "Forms", "Answered", "Therm", "Steps", "Status", "Alarm", "Assured", "Commands", "Kept", "Rows", "Judged"],
+    "text_rules": ["Tables", "Written", "Begins", "RecordText", "AnswerText", "Completed", "PutCases"],
+    "replay_rules": ["Examples", "ReplayCases", "Meant", "Alarms", "Consumed", "Room"],
+    "console_rules": ["Examples", "Texts"],
+    "saved_rules": ["FaceCases", "Saved"],
+}
+
+
+def said_by(log, crate):
+    """What refused an edit: a claim, only a proof's own restatement, or the code."""
+    if crate not in SAYING:
+        return "code"
+    return "claim" if any(f"/proofs/{name}.antt:" in line and ": error" in line for line in errors_of(log) for name in SAYING[crate]) else "restated"

@@ -16,6 +16,7 @@ part() {
 
 part .ci/run
 part tests/compare/run.sh --seed 7 --count 300000
+part tests/face.sh 5000000 7
 part tests/fuzz/run.sh --minutes 10
 part tests/mutation/run.py
 printf '%s\n' "${said[@]}"

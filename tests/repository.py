@@ -9,13 +9,14 @@ import sys
 from pathlib import Path
 
 from checks import check, differs, end
-from refusals import unfit
+from named import PLACE, changed, named
+from refusals import SAYING, unfit
 
 ROOT = Path(__file__).resolve().parent.parent
 # A public function: its attributes, `pub` or `pub(..)`, words such as `extern "C"`, its name, and all up to its body.
 PUBLIC = re.compile(r'^ *(?:#\[[^\n]*?\] *)*pub(?:\([^)\n]*\))? (?:[\w"]+ )*?fn (\w+)(.*?)(?:\n\s*\{$| \{$| \{\}$)', re.M | re.S)
 # Records of equations that give the result and every byte of each lent buffer. Each has a law that no second answer satisfies it.
-RECORDS = ["Put", "Turned", "Ran", "Replayed", "Written"]
+RECORDS = ["Put", "Turned", "Ran", "Replayed", "Written", "PoweredOn", "EventDone"]
 # What makes a statement hold of more than one answer.
 LOOSENS = re.compile("[→⊎∨]")
 
@@ -135,7 +136,7 @@ def missing(text):
     found = []
     for name in re.findall(r"`([^`\n]+)`", text):
         if m := re.fullmatch(r"[A-Z]\w+\.antt", name):
-            if not (ROOT / "crates" / "rules" / "specs" / name).exists():
+            if not list(ROOT.glob(f"crates/*/specs/{name}")):
                 found.append(f"{name}: no such file")
         elif m := re.fullmatch(r"([A-Z]\w+)\.(\w+)", name):
             if m[2] not in declared(m[1]):
@@ -152,8 +153,9 @@ def missing(text):
 
 
 def is_edit(name):
+    """Whether an edit of the gate or a named one of the mutation run is called so."""
     m = re.fullmatch(r"(\w+)/(\w+)", name)
-    return bool(m) and (ROOT / "crates" / m[1] / "must-fail" / f"{m[2]}.edit").exists()
+    return bool(m) and any((place / f"{m[2]}.edit").exists() for place in (ROOT / "crates" / m[1] / "must-fail", PLACE / m[1]))
 
 
 def documents():
@@ -275,7 +277,7 @@ def claims():
 
 # Which files must refuse an edit of the rules: the tables and what is said in other words, or what is shown of an event and of every sequence; of these the first list
 # by the laws of an event or the theorem, the second by what is seen of a chip.
-TABLES = ["proofs/Tables.antt", "proofs/Meant.antt", "proofs/Forms.antt", "proofs/Answered.antt", "proofs/Therm.antt"]
+TABLES = ["proofs/Tables.antt", "proofs/Meant.antt", "proofs/Forms.antt", "proofs/Answered.antt", "proofs/Judged.antt", "proofs/Therm.antt"]
 THEOREM = ["proofs/Steps.antt", "proofs/Status.antt", "proofs/Alarm.antt", "proofs/Commands.antt"]
 SEEN = ["proofs/Steps.antt", "proofs/Kept.antt"]
 ALARMS = [
@@ -292,8 +294,43 @@ LEFT = [
 
 def places(crate, name):
     if crate != "rules":
-        return []
+        return [f"proofs/{stem}.antt" for stem in SAYING.get(crate, [])]
     return THEOREM if name in ALARMS else SEEN if name in LEFT else TABLES + THEOREM + SEEN
+
+
+# What the gate may spend on edits. An edit costs its crate's own check: one of a crate without functions, some four seconds, is counted as 1.
+# A request of document 02 brings at most five edits of definitions and two of code.
+WEIGHTS = {
+    "rules": 1, "text_rules": 1, "replay_rules": 1, "console_rules": 1, "saved_rules": 1, "power": 1, "judge": 1, "values": 2, "channel": 2, "events": 2, "registers": 3,
+    "show": 3, "console": 3, "saved": 3, "dlaveth": 3, "chip": 6, "replay": 5, "text": 7, "change": 8, "parts": 9,
+}
+BUDGET, REQUEST = 250, 17
+
+
+def spent(edits):
+    """The weight of a list of crates, one for each edit; a crate without a weight counts most."""
+    return sum(WEIGHTS.get(crate, max(WEIGHTS.values())) for crate in edits)
+
+
+def budget():
+    check("the weight of edits is counted", differs([spent(["rules", "chip", "none"])], [16]))
+    crates = [path.parts[-3] for path in ROOT.glob("crates/*/must-fail/*.edit")]
+    most = BUDGET + REQUEST * len(list(ROOT.glob("docs/landings/*.md")))
+    check(f"{len(crates)} must-fail edits weigh {spent(crates)}: at most {most}", [] if spent(crates) <= most else ["they weigh more"])
+    bare = [crate for crate in {path.parent.parent.name for path in ROOT.glob("crates/*/src/lib.rt")} if crate not in crates]
+    check("every library has an edit", bare)
+    found = []
+    for crate, path in named():
+        try:
+            changed(crate, path.read_text())
+        except (OSError, ValueError) as error:
+            found.append(f"{crate}/{path.stem}: {error}")
+    check(f"{len(named())} named edits of the mutation run can be made in the code as it stands", found)
+    for name, edit in ("text that is not there", "file: src/lib.rt\nold: no such\nnew: x\n"), ("no change", "file: src/lib.rt\n"):
+        try:
+            check(f"a named edit with {name} is found", [] if not changed("chip", edit) else ["it is not"])
+        except ValueError:
+            check(f"a named edit with {name} is found", [])
 
 
 def edits():
@@ -312,7 +349,7 @@ def edits():
             found.append(f"{crate}/{path.stem}: not tried")
         elif why := unfit(log.read_text(), places(crate, path.stem)):
             found.append(f"{crate}/{path.stem}: {why}")
-    check(f"{seen} must-fail edits are refused in a proof that fits the code's form, those of the rules by a table or the theorem", found)
+    check(f"{seen} must-fail edits are refused in a proof that fits the code's form, those of definitions by a table or a claim", found)
 
 
 # ---- what the proofs rest on
@@ -366,6 +403,7 @@ def main():
     sentences()
     claims()
     edits()
+    budget()
     trust()
     cases()
     end()

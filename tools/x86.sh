@@ -16,13 +16,13 @@ else
     x86_run=(qemu-x86_64)
 fi
 
-x86_library=target/staticlib/libreplay.a
+x86_library=target/staticlib/libdlaveth.a
 if [[ ! -e $x86_library || -n $(find crates crates.txt -newer "$x86_library" -print -quit) ]]; then
     mkdir -p target
     if [[ -t 2 ]]; then
         echo "proving and building the library: some three minutes at the first run" >&2
     fi
-    rt staticlib replay >target/staticlib.out 2>&1 || { cat target/staticlib.out >&2; exit 1; }
+    rt staticlib dlaveth >target/staticlib.out 2>&1 || { cat target/staticlib.out >&2; exit 1; }
 fi
 
 x86_tool() {

@@ -4,12 +4,14 @@
     tests/mutation/run.py                  one trial for each function and definition, then the report
     tests/mutation/run.py --rounds 3       three for each; what was tried before is not tried again
     tests/mutation/run.py --crate chip     of one crate alone
+    tests/mutation/run.py --named          the named edits alone
     tests/mutation/run.py --report         the report of what was tried so far
 
 Each edit is tried in its own crate; one that is still proved there goes against the crates above, in order, until one refuses it. What was
 tried stands in target/mutation/results, a line each, so a run that was stopped goes on where it was. An edit that the compiler refuses, or
 whose refusal says only that a definition has no type or a proof no place, counts as not tried, and the unit's next edit takes its turn.
-A survivor that tests/mutation/explained.txt does not explain fails the run.
+Before them the named edits of tests/mutation/named are tried, in their own crates; one that is not refused at a fact fails the run, and so
+does a survivor that tests/mutation/explained.txt does not explain.
 """
 import argparse
 import hashlib
@@ -26,7 +28,8 @@ from pathlib import Path
 
 ROOT = Path(__file__).resolve().parent.parent.parent
 sys.path.insert(0, str(ROOT / "tests"))
-from refusals import errors_of, unfit    # noqa: E402
+from named import changed, named    # noqa: E402
+from refusals import errors_of, said_by, unfit    # noqa: E402
 from edits import edits    # noqa: E402
 from units import units    # noqa: E402
 
@@ -138,7 +141,7 @@ class Worker:
         raise RuntimeError(f"the toolchain failed: {said}")
 
     def verdict(self, unit, edit):
-        """What became of an edit, the crate where that was seen, and the first error or why it was no trial."""
+        """What became of an edit, the first error or why it was no trial, the crate where that was seen, and what refused it."""
         path = self.root / unit.path
         text = path.read_text()
         path.write_text(text[:edit.start] + edit.new + text[edit.end:])
@@ -146,14 +149,14 @@ class Worker:
         try:
             proved, log = self.own(unit.crate)
             if not proved:
-                return (*self.judged(log, unit), unit.crate)
+                return (*self.judged(log, unit), unit.crate, said_by(log, unit.crate))
             touched += above(unit.crate, self.deps)
             reached = self.reach.crates(unit)
             for crate in [name for name in touched[1:] if name in reached] or ([unit.crate] if self.is_program(unit.crate) else []):
                 proved, refusing, log = self.higher(crate)
                 if not proved:
-                    return (*self.judged(log, unit), refusing)
-            return SURVIVED, "", ""
+                    return (*self.judged(log, unit), refusing, said_by(log, refusing))
+            return SURVIVED, "", "", ""
         finally:
             path.write_text(text)
             self.restore(touched)
@@ -161,6 +164,21 @@ class Worker:
     def is_program(self, crate):
         """A program is also run, and what it writes is held to what is stored."""
         return (self.root / "crates" / crate / "src" / "main.rt").exists()
+
+    def tried(self, crate, changes):
+        """What became of a named edit, a file's text for each file, and the first error or why it shows nothing."""
+        before = {path: (self.root / path).read_text() for path in changes}
+        for path, text in changes.items():
+            (self.root / path).write_text(text)
+        try:
+            proved, log = self.own(crate)
+            if proved:
+                return SURVIVED, ""
+            return self.judged(log, None)
+        finally:
+            for path, text in before.items():
+                (self.root / path).write_text(text)
+            self.restore([crate])
 
     def judged(self, log, unit):
         errors = errors_of(log)
@@ -170,7 +188,7 @@ class Worker:
             return (REFUSED, "its program writes something else") if "is not what its file" in log else (UNTRIED, f"not compiled: {first}")
         if why := unfit(log):
             return UNTRIED, why.replace(f"{self.root}/", "")
-        if unit.path.suffix == ".antt" and f"/{Path(*unit.path.parts[2:])}:" in errors[0].split(" error")[0]:
+        if unit and unit.path.suffix == ".antt" and f"/{Path(*unit.path.parts[2:])}:" in errors[0].split(" error")[0]:
             return UNTRIED, f"no definition: {first}"
         return REFUSED, first
 
@@ -240,9 +258,9 @@ def run(todo, rounds, jobs, deps, results):
                 if key in results.lines:
                     continue
                 began = time.time()
-                verdict, why, crate = worker.verdict(unit, edit)
+                verdict, why, crate, by = worker.verdict(unit, edit)
                 results.add({"key": key, "whole": results.whole, "unit": f"{unit.path}:{unit.name}", "crate": unit.crate, "kind": edit.kind, "old": edit.old,
-                             "new": edit.new, "verdict": verdict, "at": crate, "why": why, "seconds": round(time.time() - began, 1)})
+                             "new": edit.new, "verdict": verdict, "at": crate, "by": by, "why": why, "seconds": round(time.time() - began, 1)})
                 print(f"{place}/{len(queue)} {unit.path}:{unit.name}: {edit.kind}: {verdict} {crate if verdict == REFUSED else ''}", flush=True)
 
     threads = [threading.Thread(target=guarded, args=(number,)) for number in range(jobs)]
@@ -271,8 +289,9 @@ def explained():
 
 
 def report(todo, results):
-    """The figures, as a table for docs/MUTATION.md, then every survivor and every unit without a trial. Gives the counts and the survivors without an explanation."""
-    rows, survivors, bare = {}, [], []
+    """The figures, as a table for docs/MUTATION.md, then every survivor, every definition that no claim speaks of and every unit without a trial.
+    Gives the counts and the survivors without an explanation."""
+    rows, survivors, bare, unsaid = {}, [], [], []
     for unit, found in todo:
         sort = "functions" if unit.path.suffix == ".rt" else "claims" if unit.claim else "definitions"
         told = shapes(unit, found)
@@ -281,25 +300,58 @@ def report(todo, results):
         tried = [results.lines[k] for k, _ in found if k in results.lines]
         for entry in tried:
             row[entry["verdict"]] += 1
-            row["own"] += entry["verdict"] == REFUSED and entry["at"] == unit.crate
+            if entry["verdict"] == REFUSED:
+                row[entry["by"]] += 1
+                if sort == "definitions" and entry["by"] != "claim":
+                    unsaid.append(f"{told[entry['key']]} | refused by {'the code' if entry['by'] == 'code' else 'a restatement'} alone: {entry['at']}: {entry['why'][:120]}")
             survivors += [told[entry["key"]]] * (entry["verdict"] == SURVIVED)
         if all(entry["verdict"] == UNTRIED for entry in tried):
             bare.append(f"{unit.path}:{unit.name}")
         else:
             row["reached"] += 1
-    print("| Crate | Of | Units | With a trial | Refused in the crate | Refused above | Survived | Not tried |")
-    print("|---|---|---|---|---|---|---|---|")
+    print("| Crate | Of | Units | With a trial | Refused by a claim | By a restatement alone | By the code alone | Survived | Not tried |")
+    print("|---|---|---|---|---|---|---|---|---|")
     total = Counter()
-    for (crate, sort), row in rows.items():
-        total.update(row)
-        print(f"| {crate} | {sort} | {row['units']} | {row['reached']} | {row['own']} | {row[REFUSED] - row['own']} | {row[SURVIVED]} | {row[UNTRIED]} |")
-    print(f"| all | | {total['units']} | {total['reached']} | {total['own']} | {total[REFUSED] - total['own']} | {total[SURVIVED]} | {total[UNTRIED]} |")
+    for (crate, sort), row in [*rows.items(), (("all", ""), total)]:
+        if row is not total:
+            total.update(row)
+        counts = [row[name] for name in ("units", "reached", "claim", "restated", "code", SURVIVED, UNTRIED)]
+        print(f"| {crate} | {sort} | {' | '.join(map(str, counts))} |")
     why = explained()
     for shape in survivors:
         print(f"survived: {shape} | {why.get(shape, 'NOT EXPLAINED')}")
+    for line in unsaid:
+        print(f"no claim: {line}")
     for name in bare:
         print(f"no trial: {name}")
     return total, [shape for shape in survivors if shape not in why]
+
+
+def try_named(jobs, deps):
+    """The named edits that were not refused at a fact, with why."""
+    todo, lock, wrong = iter(named()), threading.Lock(), []
+
+    def work(number):
+        worker = Worker(number, deps, None)
+        while True:
+            with lock:
+                crate, path = next(todo, (None, None))
+            if crate is None:
+                return
+            try:
+                verdict, why = worker.tried(crate, changed(crate, path.read_text()))
+            except (OSError, ValueError, RuntimeError) as error:
+                verdict, why = UNTRIED, str(error)
+            print(f"{crate}/{path.stem}: {verdict} {why[:160]}", flush=True)
+            if verdict != REFUSED:
+                wrong.append(f"{crate}/{path.stem}: {verdict} {why}")
+
+    threads = [threading.Thread(target=work, args=(number,)) for number in range(jobs)]
+    for thread in threads:
+        thread.start()
+    for thread in threads:
+        thread.join()
+    return wrong
 
 
 def main():
@@ -308,21 +360,29 @@ def main():
     parser.add_argument("--jobs", type=int, default=2)
     parser.add_argument("--crate", action="append")
     parser.add_argument("--report", action="store_true")
+    parser.add_argument("--named", action="store_true")
     words = parser.parse_args()
     deps = dependencies()
     todo = list(candidates(words.crate or list(deps)))
     PLACE.mkdir(parents=True, exist_ok=True)
-    results = Results()
+    results, wrong = Results(), []
     if not words.report:
         if subprocess.run(["rt", "check"], cwd=ROOT, stdout=subprocess.DEVNULL).returncode:
             sys.exit("the crates are not proved as they are")
         for crate in deps:    # what the trials of each crate start from
             if subprocess.run(["rt", "dev", crate], cwd=ROOT, stdout=subprocess.DEVNULL).returncode:
                 sys.exit(f"{crate} is not proved as it is")
+        if words.named or not words.crate:
+            wrong = try_named(words.jobs, deps)
+            for line in wrong:
+                print(f"named edit: {line}")
+            print(f"{len(named()) - len(wrong)} of {len(named())} named edits refused at a fact")
+        if words.named:
+            sys.exit(len(wrong) > 0)
         run(todo, words.rounds, words.jobs, deps, results)
     total, left = report(todo, results)
-    print(f"{total[REFUSED]} refused at a fact, {total[SURVIVED]} survived, {len(left)} of them not explained")
-    sys.exit(len(left) > 0)
+    print(f"{total['claim']} refused by a claim, {total['restated']} by a restatement alone, {total['code']} by the code alone, {total[SURVIVED]} survived, {len(left)} of them not explained")
+    sys.exit(bool(left or wrong))
 
 
 main()

@@ -6,7 +6,7 @@ use show::lines::alert_line;
 use show::lines::therm_line;
 ghost use mathlib.Core.Path.{_≡_};
 ghost use Rattle.rules.specs.Step as rule;
-ghost use Rattle.rules.specs.Step.{answerOf, onBus};
+ghost use Rattle.rules.specs.Step.{answerOf};
 
 pub fn answer(code: u8, reply: u8, s: State) -> Answer
     ensures { λ r. ⌜ r ≡ answerOf code reply s ⌝ }
@@ -37,15 +37,4 @@ pub fn refused(code: u8, s: State) -> Answer
     ensures { λ r. ⌜ r ≡ rule.refused code s ⌝ }
 {
     answer(code, 0, s)
-}
-
-// What was done, if the address is the chip's; otherwise code 3, and nothing was.
-pub fn on_bus(s: State, address: u8, d: Done) -> Answer
-    ensures { λ r. ⌜ r ≡ onBus s address d ⌝ }
-{
-    if address == s.address {
-        done(d)
-    } else {
-        refused(3, s)
-    }
 }

@@ -1,9 +1,10 @@
-// The eight forms of an event.
+// What each task does, and so what each of the eight forms of an event is answered.
 use crate::answer::answer;
 use crate::answer::done;
-use crate::answer::on_bus;
 use crate::answer::refused;
 use crate::answer::silent;
+use crate::task::Task;
+use crate::task::asked;
 use change::convert::converted;
 use change::write::pointed;
 use change::write::written;
@@ -19,6 +20,7 @@ use show::lines::alert_low;
 use show::read::read_at_pointer;
 use show::status::any_flag;
 ghost use mathlib.Core.Path.{_≡_};
+ghost use Rattle.chip.specs.Task.{performOf};
 ghost use Rattle.rules.specs.Step as rule;
 ghost use Rattle.rules.specs.Step.{respondOf, startOf, endOf, applyOf, checkedOf, responseOf};
 ghost use Rattle.rules.specs.PowerOn.{powerOn};
@@ -83,27 +85,26 @@ fn end(s: State, t: Samples) -> Answer
     }
 }
 
+// Reading stands once: the compiler lays a function that has one caller into it, and the state stays in registers.
+fn perform(s: State, t: Task) -> Answer
+    ensures { λ r. ⌜ r ≡ performOf s t ⌝ }
+{
+    match t {
+        Task::Reset => reset(s),
+        Task::Point(command) => done(silent(pointed(s, command))),
+        Task::Write(command, byte) => done(silent(written(s, command, byte))),
+        Task::Read(command) => done(read_at_pointer(pointed(s, command))),
+        Task::Respond => respond(s),
+        Task::Start => start(s),
+        Task::End(samples) => end(s, samples),
+        Task::Foreign => refused(3, s),
+    }
+}
+
 fn apply(s: State, e: Event) -> Answer
     ensures { λ r. ⌜ r ≡ applyOf s e ⌝ }
 {
-    match e {
-        Event::Reset => reset(s),
-        Event::Send { address, command } => on_bus(s, address, silent(pointed(s, command))),
-        Event::Write {
-            address,
-            command,
-            byte,
-        } => on_bus(s, address, silent(written(s, command, byte))),
-        Event::Read { address, command } => on_bus(
-            s,
-            address,
-            read_at_pointer(pointed(s, command)),
-        ),
-        Event::Receive { address } => on_bus(s, address, read_at_pointer(s)),
-        Event::Respond => respond(s),
-        Event::Start => start(s),
-        Event::End { samples } => end(s, samples),
-    }
+    perform(s, asked(s, e))
 }
 
 pub fn checked(s: State, c: Checked) -> Answer

@@ -2,6 +2,7 @@
 // next event's. `is_well_formed` and `is_alert_low` are for whoever joins several chips.
 mod answer;
 mod event;
+mod task;
 
 use rules::answer::Answer;
 use rules::answer::Made;

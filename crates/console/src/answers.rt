@@ -1,11 +1,11 @@
 // A trace's answers, and after them the line that says how it ended.
 use replay::play::play;
-use text::answer::Wrote;
 use text::answer::write_end;
+use text_rules::answer::Wrote;
 ghost use Prim.Native.Nat.{_≤_};
 ghost use mathlib.Core.Path.{_≡_};
 ghost use lib.ListN.{length};
-ghost use Rattle.console.specs.Console.{Written, countOf, longest};
+ghost use Rattle.console_rules.specs.Console.{Written, countOf, longest};
 
 // The longest trace that is replayed.
 pub const MOST: usize = 24576;

@@ -1,4 +1,4 @@
-// Document 01, Traces and their replay: the chip and the text joined, and the entry for C.
+// Document 01, Traces and their replay: the chip and the text joined.
 pub mod play;
 mod report;
 
@@ -9,7 +9,7 @@ ghost use mathlib.Core.Bool.{_||_, not};
 ghost use mathlib.Core.Path.{_≡_};
 ghost use lib.Dec.{eqb, ltb};
 ghost use lib.IntN.{pos};
-ghost use Rattle.replay.specs.Replay.{Replayed, replayFrom, replayOf};
+ghost use Rattle.replay_rules.specs.Replay.{Replayed, replayFrom};
 
 const MOST: usize = 16777216;
 
@@ -39,12 +39,4 @@ pub fn replay_made(made: Made, trace: &[u8], output: &mut [u8], report: &mut [u8
     let p = play(s, trace, output);
     write_report(report, p.code, p.records, p.used, p.written);
     p.code as i32
-}
-
-// What a C program calls.
-#[no_mangle]
-pub extern "C" fn replay(address: i32, trace: &[u8], output: &mut [u8], report: &mut [u8]) -> i32
-    ensures { λ r. ⌜ Replayed (replayOf address (now (trace .entry)) (now (output .entry)) (now (report .entry))) r (now (output .exit)) (now (report .exit)) ⌝ }
-{
-    replay_made(chip::fresh(address), trace, output, report)
 }

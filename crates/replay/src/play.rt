@@ -1,27 +1,13 @@
 // Records read, stepped and answered one after the other.
+use replay_rules::play::Played;
+use replay_rules::play::Turn;
 use rules::event::Numbers;
 use rules::state::State;
-use text::answer::Wrote;
 use text::answer::write_answer;
-use text::record::Parsed;
 use text::record::read_record;
-ghost use Rattle.replay.specs.Play.{Turned, Ran};
-
-// What one record came to: the state after it, the trace bytes that it used and the output bytes that its answer took; or the
-// code that stops the replay there.
-pub enum Turn {
-    Went(State, usize, usize),
-    Stopped(u8),
-}
-
-// A replay, or one under way: its code, the records answered, the trace bytes used, the output bytes written, and the state.
-pub struct Played {
-    pub code: u8,
-    pub records: usize,
-    pub used: usize,
-    pub written: usize,
-    pub state: State,
-}
+use text_rules::answer::Wrote;
+use text_rules::record::Parsed;
+ghost use Rattle.replay_rules.specs.Play.{Turned, Ran};
 
 // One record: read, stepped, and answered at the front of what is lent.
 pub fn take_turn(s: State, rest: &[u8], out: &mut [u8]) -> Turn

@@ -1,7 +1,7 @@
 // The 16 bytes of a report.
 ghost use mathlib.Core.Path.{_≡_};
 ghost use mathlib.Core.List.{_++_};
-ghost use Rattle.replay.specs.Replay.{word, writtenOver};
+ghost use Rattle.replay_rules.specs.Replay.{word, writtenOver};
 
 // Four numbers of four bytes each, low byte first, into a report of 16; any other is left as it is.
 pub fn write_report(report: &mut [u8], code: u8, records: usize, used: usize, written: usize)

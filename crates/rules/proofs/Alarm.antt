@@ -228,7 +228,7 @@ module _ (s : State) (h : History) (w : wellFormed s ≡ true) (g : Agrees s h) 
       subst (λ (v : View). Agrees (stepOf s n .state) (begun (entryOf v (checkOf n) reply) h)) (g .seen) from-noted
 
 -- the state after events is by the state alone
-last-state : (es : List Numbers) (x y : Answer) → x .state ≡ y .state → lastFrom x es .state ≡ lastFrom y es .state
+pub last-state : (es : List Numbers) (x y : Answer) → x .state ≡ y .state → lastFrom x es .state ≡ lastFrom y es .state
 unfolding lastFrom
 last-state [] x y e = e
 last-state (f ∷ es) x y e = ap (λ (s : State). lastFrom (stepOf s f) es .state) e

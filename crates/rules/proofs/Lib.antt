@@ -6,6 +6,7 @@ pub mod Assured
 pub mod Choice
 pub mod Commands
 pub mod Forms
+pub mod Judged
 pub mod Kept
 pub mod Lists
 pub mod Match

@@ -11,7 +11,7 @@ use borrow.Author.Tests.{eq-eqb, eqb-true, le-leb, le-ltb, lt-leb, lt-ltb, ltb-f
 use Rattle.rules.specs.declared.register.Channel.the-variants.{Local, Remote}
 use Rattle.rules.specs.declared.register.Register.the-variants.{RemoteOffset, RemoteOffsetFine}
 use Rattle.rules.specs.Conversion.{codeFor}
-use Rattle.rules.specs.Meant.{AnyMeans, BitsMean, Clamped, CodesMean, ComparisonsOrder, FlagsMean, KeepsMean, LimitsMean, MadeMeans, OffsetsMean, SamplesMean, SixMeans, ThermBitsMean, ThermCompares, bytes}
+use Rattle.rules.specs.Meant.{AnyMeans, BitsMean, Clamped, CodesMean, ComparisonsOrder, FlagsMean, KeepsMean, LimitsMean, ListsMean, MadeMeans, OffsetsMean, SamplesMean, SixMeans, ThermBitsMean, ThermCompares, TrimMeans, bytes}
 use Rattle.rules.specs.Rows.{trimOf}
 use Rattle.rules.specs.Values.{clampOf, codeOf, offsetOf}
 
@@ -101,7 +101,21 @@ pub flags-mean : FlagsMean
 flags-mean = (refl, refl)
 
 pub any-means : AnyMeans
-any-means f = ap (λ (b : Bool). f Local || b) (or-false (f Remote))
+any-means = (λ f. ap (λ (b : Bool). f Local || b) (or-false (f Remote)), λ p. refl)
+
+pub lists-mean : ListsMean
+lists-mean =
+    record {
+      any-none = refl;
+      any-more = λ b bs. refl;
+      all-none = refl;
+      all-more = λ b bs. refl;
+      sum-none = refl;
+      sum-more = λ n ns. refl;
+    }
+
+pub trim-means : TrimMeans
+trim-means r b = refl
 
 pub therm-bits-mean : ThermBitsMean
 therm-bits-mean = (refl, refl)

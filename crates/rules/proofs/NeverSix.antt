@@ -2,23 +2,18 @@
 -- code is above 6. Assumes nothing.
 use Prim.Native.Nat.{ℕ, _<_}
 use native.Mathlib.Omega.{arith}
-use mathlib.Core.Path.{_≡_, refl, ap}
+use mathlib.Core.Path.{_≡_, refl}
 use mathlib.Core.Bool.{Bool, true, false, cond}
 use mathlib.Core.List.{List, [], _∷_}
 use lib.IntN.ℤ.{pos, negsuc}
 use Rattle.rules.specs.declared.answer.Answer.{Answer}
 use Rattle.rules.specs.declared.event.Numbers.{Numbers}
-use Rattle.rules.specs.declared.register.Channel.{Channel}
-use Rattle.rules.specs.declared.register.Register.{Register}
-use Rattle.rules.specs.declared.state.ChannelState.{ChannelState}
-use Rattle.rules.specs.declared.state.Given.{Given}
 use Rattle.rules.specs.declared.state.State.{State}
-use Rattle.rules.specs.PowerOn.{allZero, isAddress, madeAt, madeOf, newChannel, newRest, noState}
-use Rattle.rules.specs.Sound.{NeverSix, RefusedAfterCode2, Zeros, ZerosAfterCode2}
+use Rattle.rules.specs.PowerOn.{isAddress, madeAt, madeOf, noState}
+use Rattle.rules.specs.Sound.{NeverSix, RefusedAfterCode2}
 use Rattle.rules.specs.Step.{after, answerOf, lastFrom, stepOf}
 use Rattle.rules.specs.WellFormed.{wellFormed}
 use Rattle.rules.proofs.Answers.{answer-has, well-has}
-use Rattle.rules.proofs.Rows.{channels-back, stored-back}
 use Rattle.rules.proofs.WellFormed.{fresh-well-formed, steps-well-formed}
 
 -- of any state, so also of one that is not well formed
@@ -44,23 +39,3 @@ refused-after-code-2 (pos n) h e = by (isAddress n) h
     by true h = absurd (omega (arith, h))
     by false h = refl
 refused-after-code-2 (negsuc n) h e = refl
-
-zeros : Zeros allZero
-zeros =
-    record {
-      address = refl;
-      rest = refl;
-      registers = λ r. ap (λ (f : Register → ℕ). f r) (stored-back given newRest (λ q. 0) (λ x. newChannel));
-      channels = λ ch. ap (λ (c : Channel → ChannelState). c ch) (channels-back given newRest (λ q. 0) (λ x. newChannel));
-    }
-  where
-    given : Given
-    given = record { address = 0 }
-
-pub zeros-after-code-2 : ZerosAfterCode2
-zeros-after-code-2 (pos n) h = by (isAddress n) h
-  where
-    by : (t : Bool) → cond t (madeAt n) noState .code ≡ 2 → Zeros (cond t (madeAt n) noState .state)
-    by true h = absurd (omega (arith, h))
-    by false h = zeros
-zeros-after-code-2 (negsuc n) h = zeros

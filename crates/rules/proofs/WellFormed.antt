@@ -82,7 +82,7 @@ well s h4 =
       channels-fit = λ ch. record { value = values ch; diode = diodes ch };
     }
 
-unwell : (s : State) → Well s → wellFormed s ≡ true
+pub unwell : (s : State) → Well s → wellFormed s ≡ true
 unfolding wellFormed
 unwell s w =
     rw (w .address, w .runs, all-true (registerWell s) registers (w .registers-kept), all-true (valueWell s) channels (λ ch. w .channels-fit ch .value))

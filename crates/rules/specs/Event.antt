@@ -57,6 +57,11 @@ sampleOf x = cond (isRemoteSample x) x (pos 0)
 abbrev pub samplesOf : ℤ → ℤ → ℤ → Samples
 samplesOf a b c = record { local = sampleOf a; remote = sampleOf b; broken = eqb (byteOf c) 1 }
 
+-- document 01's number for each case
+abbrev pub checkedCode : Checked → ℕ
+checkedCode (Good e) = 0
+checkedCode (Bad code) = code
+
 -- the event where its fields are in range, otherwise code 2
 abbrev pub goodIf : Bool → Event → Checked
 goodIf fields e = cond fields (Good e) (Bad 2)

@@ -1,7 +1,8 @@
 -- What happened since the latest power-on, worked out from the address and the events alone, "never from stored flags": no state of the
 -- step is looked at, and of its answers only the reply bytes. Read from top to bottom: what is seen of a chip; what an event does to
 -- that; what it did that matters to an alarm; the history. (`cond t x y` is x where t holds, otherwise y; `v .pointer` is v's field; `λ ch. ..`
--- is a function of ch; `x ∷ xs` is a list that begins with x. The eight forms of an event are in src/event.rt.) Assumes nothing.
+-- is a function of ch; `x ∷ xs` is a list that begins with x. The eight forms of an event are in src/event.rt.) The definitions that it
+-- shares with the step stand in its `use` lines; each has a claim in other words, which docs/ALARMS.md names. Assumes nothing.
 use Prim.Native.Nat.{ℕ}
 use mathlib.Core.Bool.{Bool, cond, not, _||_, _&&_, true, false}
 use mathlib.Core.List.{List, [], _∷_, map}

@@ -32,3 +32,4 @@ pub mod Kept
 pub mod Meant
 pub mod Forms
 pub mod Answered
+pub mod Judged

@@ -3,7 +3,7 @@
 -- nothing.
 use Prim.Native.Nat.{ℕ, zero, suc, _+_, _*_, _/_, _^_, _≤_, _<_}
 use mathlib.Core.Path.{_≡_}
-use mathlib.Core.Bool.{Bool, true, false, _||_}
+use mathlib.Core.Bool.{Bool, true, false, _&&_, _||_}
 use mathlib.Core.List.{List, [], _∷_, map}
 use lib.IntN.{ℤ, _+ℤ_, _-ℤ_}
 use lib.IntN.ℤ.{pos, negsuc}
@@ -13,13 +13,13 @@ use Rattle.rules.specs.declared.register.Register.{Register}
 use Rattle.rules.specs.declared.register.Register.the-variants.{Config, Hysteresis, LocalHigh, LocalLow, LocalTherm, RemoteHigh, RemoteHighFine, RemoteLow, RemoteLowFine, RemoteOffset, RemoteOffsetFine, RemoteTherm}
 use Rattle.rules.specs.declared.event.Samples.{Samples}
 use Rattle.rules.specs.Bits.{bit, weight}
-use Rattle.rules.specs.Channels.{anyChannel, brokenAt, sampleAt, sum, traits}
+use Rattle.rules.specs.Channels.{all, any, anyChannel, brokenAt, sampleAt, sum, traits}
 use Rattle.rules.specs.Comparisons.{aboveOf, belowOf, comparatorOf, limitsOf}
 use Rattle.rules.specs.Conversion.{codeFor}
 use Rattle.rules.specs.PowerOn.{madeOf}
-use Rattle.rules.specs.Rows.{keptBits, keptIn, trimOf}
+use Rattle.rules.specs.Rows.{keptBits, keptIn, rowOf, trimOf}
 use Rattle.rules.specs.Rows.Keeps.{All, Bits7652, Bits76}
-use Rattle.rules.specs.Status.{flagFor, flags, placeOf}
+use Rattle.rules.specs.Status.{Flag, flagFor, flags, placeOf}
 use Rattle.rules.specs.Status.Fault.{Above, Below, Open}
 use Rattle.rules.specs.Values.{offsetOf}
 
@@ -98,6 +98,10 @@ KeepsMean =
     (map (keptBits All) bytes ≡ bytes) × (map (keptBits Bits7652) bytes ≡ map (bitsAt (7 ∷ 6 ∷ 5 ∷ 2 ∷ [])) bytes)
     × (map (keptBits Bits76) bytes ≡ map (bitsAt (7 ∷ 6 ∷ [])) bytes)
 
+-- what a register stores of a byte is what it keeps of it
+abbrev pub TrimMeans : Type 0
+TrimMeans = (r : Register) (b : ℕ) → trimOf r b ≡ keptBits (rowOf r .keeps) b
+
 -- 6, "a bit set that the registers below never store"
 abbrev pub SixMeans : Type 0
 SixMeans = (r : Register) (b : ℕ) → (keptIn r b ≡ true → trimOf r b ≡ b) × (trimOf r b ≡ b → keptIn r b ≡ true)
@@ -108,9 +112,23 @@ FlagsMean =
     (flags ≡ (flagFor Local Above ∷ flagFor Local Below ∷ flagFor Remote Above ∷ flagFor Remote Below ∷ flagFor Remote Open ∷ []))
     × (map placeOf flags ≡ (6 ∷ 5 ∷ 4 ∷ 3 ∷ 2 ∷ []))
 
--- "any" asks each channel
+-- "any" asks each channel, and each flag
 abbrev pub AnyMeans : Type 0
-AnyMeans = (f : Channel → Bool) → anyChannel f ≡ (f Local || f Remote)
+AnyMeans =
+    ((f : Channel → Bool) → anyChannel f ≡ (f Local || f Remote))
+    × ((p : Flag → Bool) → any (map p flags) ≡ (p (flagFor Local Above) || (p (flagFor Local Below) || (p (flagFor Remote Above) || (p (flagFor Remote Below) || (p (flagFor Remote Open) || false))))))
+
+-- one of a list, all of it, and its sum
+pub record Listed : Type 0 where
+  pub any-none : any [] ≡ false
+  pub any-more : (b : Bool) (bs : List Bool) → any (b ∷ bs) ≡ (b || any bs)
+  pub all-none : all [] ≡ true
+  pub all-more : (b : Bool) (bs : List Bool) → all (b ∷ bs) ≡ (b && all bs)
+  pub sum-none : sum [] ≡ 0
+  pub sum-more : (n : ℕ) (ns : List ℕ) → sum (n ∷ ns) ≡ n + sum ns
+
+abbrev pub ListsMean : Type 0
+ListsMean = Listed
 
 -- "1 remote THERM, 0 local THERM"
 abbrev pub ThermBitsMean : Type 0

@@ -14,7 +14,7 @@ use Rattle.rules.specs.declared.answer.Answer.{Answer}
 use Rattle.rules.specs.declared.answer.Done.{Done}
 use Rattle.rules.specs.Configuration.{standby}
 use Rattle.rules.specs.Conversion.{converted}
-use Rattle.rules.specs.Event.{checkOf}
+use Rattle.rules.specs.Event.{checkOf, checkedCode}
 use Rattle.rules.specs.Lines.{alertLow, alertLine, thermLine}
 use Rattle.rules.specs.PowerOn.{powerOn}
 use Rattle.rules.specs.Read.{readAtPointer}
@@ -77,7 +77,7 @@ applyOf s (End t) = endOf s t
 -- "Order: 6, 1, 2, then 3, 4 or 5"
 abbrev pub checkedOf : State → Checked → Answer
 checkedOf s (Good e) = applyOf s e
-checkedOf s (Bad code) = refused code s
+checkedOf s (Bad code) = refused (checkedCode (Bad code)) s
 
 unfoldable pub stepOf : State → Numbers → Answer
 stepOf s e = cond (wellFormed s) (checkedOf s (checkOf e)) (refused 6 s)

@@ -1,16 +1,11 @@
 // An answer: four lines.
+use text_rules::answer::Wrote;
 ghost use mathlib.Core.Bool.{Bool};
 ghost use mathlib.Core.Path.{_≡_};
 ghost use Prim.Native.Nat.{_≤_};
 ghost use lib.ListN.{length};
-ghost use Rattle.text.specs.Names.{endName};
-ghost use Rattle.text.specs.Answer.{decimalOf, lineText, level, answerText, Front, Put};
-
-// How many bytes were written; or that there was no room, and none was.
-pub enum Wrote {
-    Bytes(usize),
-    NoRoom,
-}
+ghost use Rattle.text_rules.specs.Names.{endName};
+ghost use Rattle.text_rules.specs.Answer.{decimalOf, lineText, level, answerText, Front, Put};
 
 // Bytes as they are.
 fn put_text(out: &mut [u8], text: &[u8]) -> usize

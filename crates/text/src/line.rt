@@ -3,18 +3,12 @@ ghost use mathlib.Core.Path.{_≡_};
 ghost use mathlib.Core.Bool.{cond};
 ghost use Prim.Native.Nat.{_≤_};
 ghost use lib.ListN.{length, drop};
-ghost use Rattle.text.specs.declared.line.Fit.the-variants.{No};
-ghost use Rattle.text.specs.Number.{longer, numberOf};
-ghost use Rattle.text.specs.Line.{fitOf, behindName};
+ghost use Rattle.text_rules.specs.declared.line.Fit.the-variants.{No};
+ghost use Rattle.text_rules.specs.Number.{longer, numberOf};
+ghost use Rattle.text_rules.specs.Line.{fitOf, behindName};
 use crate::number;
-use crate::number::Line;
-
-// A name at the front of a part: whole, begun, or not there.
-pub enum Fit {
-    Yes,
-    Begun,
-    No,
-}
+use text_rules::line::Fit;
+use text_rules::number::Line;
 
 // The first n bytes of both are the same. All of them are compared, so that the compiler takes a known name in one piece.
 fn same(name: &[u8], s: &[u8], n: usize) -> bool

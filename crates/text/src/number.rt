@@ -1,20 +1,9 @@
 // A number and the end of its line.
+use text_rules::number::Digits;
+use text_rules::number::Line;
 ghost use mathlib.Core.Path.{_≡_};
 ghost use lib.ListN.{getD};
-ghost use Rattle.text.specs.Number.{digitsOf, badZero, plainOf, numberOf};
-
-// The digits at the front of a part, and what they are worth.
-pub struct Digits {
-    pub value: u32,
-    pub count: usize,
-}
-
-// A line read, with its length; or more bytes could make one of it; or never.
-pub enum Line {
-    Is(i32, usize),
-    Short,
-    Never,
-}
+ghost use Rattle.text_rules.specs.Number.{digitsOf, badZero, plainOf, numberOf};
 
 // Past the end a byte reads as 0, which is no digit and no sign.
 fn byte(s: &[u8], i: usize) -> u8

@@ -1,23 +1,11 @@
 // A record: four lines.
 ghost use mathlib.Core.Path.{_≡_};
-ghost use Rattle.text.specs.declared.record.Parsed.the-variants.{Malformed};
-ghost use Rattle.text.specs.Record.{next, recordOf};
+ghost use Rattle.text_rules.specs.declared.record.Parsed.the-variants.{Malformed};
+ghost use Rattle.text_rules.specs.Record.{next, recordOf};
 use crate::line;
-use crate::number::Line;
-
-pub struct Record {
-    pub kind: i32,
-    pub a: i32,
-    pub b: i32,
-    pub c: i32,
-}
-
-// What stands at the front of a part: a whole record with its length, a part of one that more bytes could complete, or neither.
-pub enum Parsed {
-    Whole(Record, usize),
-    Part,
-    Malformed,
-}
+use text_rules::number::Line;
+use text_rules::record::Parsed;
+use text_rules::record::Record;
 
 // What a line that was not read makes of its record.
 fn refused(l: Line) -> Parsed

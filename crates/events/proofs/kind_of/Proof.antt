@@ -1,16 +1,17 @@
 -- `events::kind_of` meets its contract: in each arm the kind is its number, and the rules follow from what the calls ensure.
 -- Assumes nothing.
 use mathlib.Core.Path.{_≡_, refl}
+use mathlib.Core.Bool.{_&&_}
 use mathlib.Core.Logic.{_≢_}
 use Prim.Native.Nat.{ℕ}
 use lib.IntN.{ℤ}
 use lib.IntN.ℤ.{pos, negsuc}
-use mir.Syntax.{w16, w32}
-use mir.Val.{SFits, ofZ}
+use mir.Syntax.{w32}
+use mir.Val.{ofZ}
 use mir.Facts.{toZ-ofZ}
 use borrow.Author.Tests.{ne-eqb}
-use Rattle.rules.proofs.Match.{key}
-use Rattle.rules.specs.Event.{kindFrom}
+use Rattle.rules.proofs.Match.{key, tested}
+use Rattle.rules.specs.Event.{kindFrom, unused}
 use Rattle.rules.specs.declared.event.Checked.the-variants.{Bad}
 use Rattle.events.proofs.kind_of.Statement.{statement}
 use Rattle.events.proofs.kind_of.Tie as tie
@@ -28,49 +29,60 @@ other (negsuc n) a b c p = refl
 returns : tie.Need-returns
 returns c =
     let s = c .before .before .before .fits in
-    simp (key (s .kind) (c .before .before .match .keys1), c .good-if .ensures, c .before .fields .ensures, toZ-ofZ (s .a), toZ-ofZ (s .b), toZ-ofZ (s .c))
+    simp (key (s .kind) (c .before .before .match .keys1), tested (λ x y z. unused x && unused y && unused z) (s .a) (s .b) (s .c) (c .before .fields .ensures) (c .if1 .taken))
 
 returns-2 : tie.Need-returns-2
 returns-2 c =
-    let s = c .before .before .before .before .before .fits in
-    simp (key (s .kind) (c .before .before .before .before .match .keys2), c .good-if2 .ensures, c .before .byte2 .ensures, c .before .before .byte .ensures, c .before .before .before .fields2 .ensures, toZ-ofZ (s .a), toZ-ofZ (s .b), toZ-ofZ (s .c))
+    let s = c .before .before .before .fits in
+    simp (key (s .kind) (c .before .before .match .keys1), tested (λ x y z. unused x && unused y && unused z) (s .a) (s .b) (s .c) (c .before .fields .ensures) (c .if1 .left))
 
 returns-3 : tie.Need-returns-3
 returns-3 c =
-    let s = c .before .before .before .before .before .before .fits in
-    simp (key (s .kind) (c .before .before .before .before .before .match .keys3), c .good-if3 .ensures, c .before .byte5 .ensures, c .before .before .byte4 .ensures, c .before .before .before .byte3 .ensures, c .before .before .before .before .fields3 .ensures, toZ-ofZ (s .a), toZ-ofZ (s .b), toZ-ofZ (s .c))
+    let s = c .before .before .fits in
+    simp (key (s .kind) (c .before .match .keys2), c .send .ensures, toZ-ofZ (s .a), toZ-ofZ (s .b), toZ-ofZ (s .c))
 
 returns-4 : tie.Need-returns-4
 returns-4 c =
-    let s = c .before .before .before .before .before .fits in
-    simp (key (s .kind) (c .before .before .before .before .match .keys4), c .good-if4 .ensures, c .before .byte7 .ensures, c .before .before .byte6 .ensures, c .before .before .before .fields4 .ensures, toZ-ofZ (s .a), toZ-ofZ (s .b), toZ-ofZ (s .c))
+    let s = c .before .before .fits in
+    simp (key (s .kind) (c .before .match .keys3), c .write .ensures, toZ-ofZ (s .a), toZ-ofZ (s .b), toZ-ofZ (s .c))
 
 returns-5 : tie.Need-returns-5
 returns-5 c =
-    let s = c .before .before .before .before .fits in
-    simp (key (s .kind) (c .before .before .before .match .keys5), c .good-if5 .ensures, c .before .byte8 .ensures, c .before .before .fields5 .ensures, toZ-ofZ (s .a), toZ-ofZ (s .b), toZ-ofZ (s .c))
+    let s = c .before .before .fits in
+    simp (key (s .kind) (c .before .match .keys4), c .read .ensures, toZ-ofZ (s .a), toZ-ofZ (s .b), toZ-ofZ (s .c))
 
 returns-6 : tie.Need-returns-6
 returns-6 c =
-    let s = c .before .before .before .fits in
-    simp (key (s .kind) (c .before .before .match .keys6), c .good-if6 .ensures, c .before .fields6 .ensures, toZ-ofZ (s .a), toZ-ofZ (s .b), toZ-ofZ (s .c))
+    let s = c .before .before .fits in
+    simp (key (s .kind) (c .before .match .keys5), c .receive .ensures, toZ-ofZ (s .a), toZ-ofZ (s .b), toZ-ofZ (s .c))
 
 returns-7 : tie.Need-returns-7
 returns-7 c =
     let s = c .before .before .before .fits in
-    simp (key (s .kind) (c .before .before .match .keys7), c .good-if7 .ensures, c .before .fields7 .ensures, toZ-ofZ (s .a), toZ-ofZ (s .b), toZ-ofZ (s .c))
+    simp (key (s .kind) (c .before .before .match .keys6), tested (λ x y z. unused x && unused y && unused z) (s .a) (s .b) (s .c) (c .before .fields2 .ensures) (c .if2 .taken))
 
--- the samples stand in the event by their bits, so those are read back before the calls' own facts are used
 returns-8 : tie.Need-returns-8
 returns-8 c =
-    let s = c .before .before .before .before .before .before .before .before .fits in
-    let h : SFits w16 (c .before .before .before .sample .result) = record { sfits = c .before .before .before .sample .ok } in
-    let h2 : SFits w16 (c .before .before .sample2 .result) = record { sfits = c .before .before .sample2 .ok } in
-    rw (c .good-if8 .ensures, toZ-ofZ h, toZ-ofZ h2)
-    (simp (key (s .kind) (c .before .before .before .before .before .before .before .match .keys8), c .before .byte9 .ensures, c .before .before .sample2 .ensures, c .before .before .before .sample .ensures, c .before .before .before .before .within3 .ensures, c .before .before .before .before .before .within2 .ensures, c .before .before .before .before .before .before .within .ensures, toZ-ofZ (s .a), toZ-ofZ (s .b), toZ-ofZ (s .c)))
+    let s = c .before .before .before .fits in
+    simp (key (s .kind) (c .before .before .match .keys6), tested (λ x y z. unused x && unused y && unused z) (s .a) (s .b) (s .c) (c .before .fields2 .ensures) (c .if2 .left))
 
 returns-9 : tie.Need-returns-9
 returns-9 c =
+    let s = c .before .before .before .fits in
+    simp (key (s .kind) (c .before .before .match .keys7), tested (λ x y z. unused x && unused y && unused z) (s .a) (s .b) (s .c) (c .before .fields3 .ensures) (c .if3 .taken))
+
+returns-10 : tie.Need-returns-10
+returns-10 c =
+    let s = c .before .before .before .fits in
+    simp (key (s .kind) (c .before .before .match .keys7), tested (λ x y z. unused x && unused y && unused z) (s .a) (s .b) (s .c) (c .before .fields3 .ensures) (c .if3 .left))
+
+returns-11 : tie.Need-returns-11
+returns-11 c =
+    let s = c .before .before .fits in
+    simp (key (s .kind) (c .before .match .keys8), c .end .ensures, toZ-ofZ (s .a), toZ-ofZ (s .b), toZ-ofZ (s .c))
+
+returns-12 : tie.Need-returns-12
+returns-12 c =
     let x = c .before .args in
     other (x .kind) (x .a) (x .b) (x .c) (c .match .rest)
 
@@ -78,27 +90,6 @@ pub kind-of-spec : {M : Type 1} → statement M
 kind-of-spec =
     tie.close
     (tie.spec
-    (λ c κs. tt)
-    (λ c κs. tt)
-    (λ c κs. tt)
-    (λ c κs. tt)
-    (λ c κs. tt)
-    (λ c κs. tt)
-    (λ c κs. tt)
-    (λ c κs. tt)
-    (λ c κs. tt)
-    (λ c κs. tt)
-    (λ c κs. tt)
-    (λ c κs. tt)
-    (λ c κs. tt)
-    (λ c κs. tt)
-    (λ c κs. tt)
-    (λ c κs. tt)
-    (λ c κs. tt)
-    (λ c κs. tt)
-    (λ c κs. tt)
-    (λ c κs. tt)
-    (λ c κs. tt)
     (λ c κs. tt)
     (λ c κs. tt)
     (λ c κs. tt)
@@ -115,4 +106,7 @@ kind-of-spec =
     returns-6
     returns-7
     returns-8
-    returns-9)
+    returns-9
+    returns-10
+    returns-11
+    returns-12)

@@ -6,7 +6,7 @@ use mir.Val.{SFits}
 use mir.Facts.{toZ-ofZ}
 use mir.ValLaws.{toZ-pos}
 use borrow.Author.Needs.{needs}
-use Rattle.replay.proofs.Replays.{finished, refused}
+use Rattle.replay_rules.proofs.Replays.{finished, refused}
 use Rattle.replay.proofs.replay_made.Statement.{statement}
 use Rattle.replay.proofs.replay_made.Tie as tie
 

@@ -4,10 +4,10 @@ use Prim.Native.Nat.{_≤_}
 use native.Mathlib.Omega.{arith}
 use lib.ListN.{length}
 use borrow.Author.Needs.{needs}
-use Rattle.text.proofs.Put.{front-held}
-use Rattle.replay.specs.Play.{Ran}
-use Rattle.console.specs.Console.{most, start}
-use Rattle.console.proofs.Texts.{answered-to, front, refused, text-fits}
+use Rattle.text_rules.proofs.Put.{front-held}
+use Rattle.replay_rules.specs.Play.{Ran}
+use Rattle.console_rules.specs.Console.{most, start}
+use Rattle.console_rules.proofs.Texts.{answered-to, front, refused, text-fits}
 use Rattle.console.proofs.answers.write_text.Statement.{statement}
 use Rattle.console.proofs.answers.write_text.Tie as tie
 

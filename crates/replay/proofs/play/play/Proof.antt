@@ -5,8 +5,8 @@ use native.Mathlib.Omega.{arith}
 use mathlib.Core.Path.{ap, _∙_}
 use lib.ListN.{length}
 use borrow.Author.Needs.{needs}
-use Rattle.text.proofs.Put.{front-held, front-length}
-use Rattle.replay.proofs.Plays.{Mid, mid-end, mid-same, mid-start, mid-step, mid-stop, turn-long}
+use Rattle.text_rules.proofs.Put.{front-held, front-length}
+use Rattle.replay_rules.proofs.Plays.{Mid, mid-end, mid-same, mid-start, mid-step, mid-stop, turn-long}
 use Rattle.replay.proofs.play.play.Statement.{statement}
 use Rattle.replay.proofs.play.play.Tie as tie
 

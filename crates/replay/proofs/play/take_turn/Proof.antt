@@ -4,13 +4,13 @@ use mathlib.Core.Path.{_≡_, refl, sym, _∙_}
 use mathlib.Core.List.{List}
 use Prim.Native.Nat.{ℕ}
 use borrow.Author.Needs.{needs}
-use Rattle.text.specs.declared.record.Record.{Record}
-use Rattle.text.specs.declared.record.Parsed.the-variants.{Whole}
-use Rattle.text.specs.Record.{recordOf}
-use Rattle.text.proofs.Records.{Small, record-small}
-use Rattle.text.proofs.Signed.{kept}
-use Rattle.replay.specs.Play.{answerTo, textOf}
-use Rattle.replay.proofs.Turns.{turn-bad, turn-full, turn-went}
+use Rattle.text_rules.specs.declared.record.Record.{Record}
+use Rattle.text_rules.specs.declared.record.Parsed.the-variants.{Whole}
+use Rattle.text_rules.specs.Record.{recordOf}
+use Rattle.text_rules.proofs.Records.{Small, record-small}
+use Rattle.text_rules.proofs.Signed.{kept}
+use Rattle.replay_rules.specs.Play.{answerTo, textOf}
+use Rattle.replay_rules.proofs.Turns.{turn-bad, turn-full, turn-went}
 use Rattle.replay.proofs.play.take_turn.Statement.{statement}
 use Rattle.replay.proofs.play.take_turn.Tie as tie
 

@@ -1,6 +1,6 @@
 -- `text::answer::answer_size` meets its contract: by how long an answer is. Assumes nothing.
 use native.Mathlib.Omega.{arith}
-use Rattle.text.proofs.Size.{few-digits, answer-length}
+use Rattle.text_rules.proofs.Size.{few-digits, answer-length}
 use Rattle.text.proofs.answer.answer_size.Statement.{statement}
 use Rattle.text.proofs.answer.answer_size.Tie as tie
 

@@ -1,5 +1,5 @@
 -- `text::answer::count_digits` meets its contract, by the tests of `decimalOf`. Assumes nothing.
-use Rattle.text.proofs.Size.{decimal-one, decimal-two, decimal-three}
+use Rattle.text_rules.proofs.Size.{decimal-one, decimal-two, decimal-three}
 use Rattle.text.proofs.answer.count_digits.Statement.{statement}
 use Rattle.text.proofs.answer.count_digits.Tie as tie
 

@@ -1,9 +1,9 @@
 -- `text::answer::put_answer` meets its contract: each line stands behind those before it, and an answer is as long as its lines.
 -- Assumes nothing.
 use native.Mathlib.Omega.{arith}
-use Rattle.text.specs.Answer.{answerText}
-use Rattle.text.proofs.Put.{front-room, front-then}
-use Rattle.text.proofs.Size.{answer-lines}
+use Rattle.text_rules.specs.Answer.{answerText}
+use Rattle.text_rules.proofs.Put.{front-room, front-then}
+use Rattle.text_rules.proofs.Size.{answer-lines}
 use borrow.Author.Needs.{needs}
 use Rattle.text.proofs.answer.put_answer.Statement.{statement}
 use Rattle.text.proofs.answer.put_answer.Tie as tie

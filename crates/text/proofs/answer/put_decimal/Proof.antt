@@ -4,8 +4,8 @@ use mathlib.Core.List.{[], _∷_}
 use Prim.Native.Nat.{_≤_}
 use lib.ListN.{length, length-set}
 use denote.Ref.{now}
-use Rattle.text.proofs.Put.{stored}
-use Rattle.text.proofs.Size.{decimal-one, decimal-two, decimal-three}
+use Rattle.text_rules.proofs.Put.{stored}
+use Rattle.text_rules.proofs.Size.{decimal-one, decimal-two, decimal-three}
 use borrow.Author.Needs.{needs}
 use Rattle.text.proofs.answer.put_decimal.Statement.{statement}
 use Rattle.text.proofs.answer.put_decimal.Tie as tie

@@ -3,8 +3,8 @@ use native.Mathlib.Omega.{arith}
 use Prim.Native.Nat.{_+_, _<_}
 use lib.ListN.{length, length-set}
 use denote.Ref.{now}
-use Rattle.text.proofs.Put.{front-length, front-room, front-more, front-then}
-use Rattle.text.proofs.Size.{line-length, line-parts}
+use Rattle.text_rules.proofs.Put.{front-length, front-room, front-more, front-then}
+use Rattle.text_rules.proofs.Size.{line-length, line-parts}
 use borrow.Author.Needs.{needs}
 use Rattle.text.proofs.answer.put_line.Statement.{statement}
 use Rattle.text.proofs.answer.put_line.Tie as tie

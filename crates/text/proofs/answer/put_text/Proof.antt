@@ -6,8 +6,8 @@ use native.Mathlib.Numerals.{add-one}
 use lib.ListN.{length, take}
 use lib.Seq.{take-suc, take-all}
 use denote.Ref.{now}
-use Rattle.text.specs.Answer.{Front}
-use Rattle.text.proofs.Put.{front-none, front-more, front-length}
+use Rattle.text_rules.specs.Answer.{Front}
+use Rattle.text_rules.proofs.Put.{front-none, front-more, front-length}
 use Rattle.text.proofs.answer.put_text.Statement.{statement}
 use Rattle.text.proofs.answer.put_text.Tie as tie
 

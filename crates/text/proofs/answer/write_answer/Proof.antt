@@ -1,5 +1,5 @@
 -- `text::answer::write_answer` meets its contract: by its test of the room. Assumes nothing.
-use Rattle.text.proofs.Put.{front-put, none-put}
+use Rattle.text_rules.proofs.Put.{front-put, none-put}
 use borrow.Author.Needs.{needs}
 use Rattle.text.proofs.answer.write_answer.Statement.{statement}
 use Rattle.text.proofs.answer.write_answer.Tie as tie

@@ -1,8 +1,8 @@
 -- `text::answer::write_end` meets its contract: by its test of the room. Assumes nothing.
 use native.Mathlib.Omega.{arith}
-use Rattle.text.specs.Names.{endName}
-use Rattle.text.proofs.Put.{front-put, none-put}
-use Rattle.text.proofs.Size.{few-digits, line-length}
+use Rattle.text_rules.specs.Names.{endName}
+use Rattle.text_rules.proofs.Put.{front-put, none-put}
+use Rattle.text_rules.proofs.Size.{few-digits, line-length}
 use borrow.Author.Needs.{needs}
 use Rattle.text.proofs.answer.write_end.Statement.{statement}
 use Rattle.text.proofs.answer.write_end.Tie as tie

@@ -7,11 +7,11 @@ use mir.Syntax.{w64}
 use mir.Val.{Fits}
 use borrow.Rule.Slice.PartAt.{part-to-end}
 use borrow.Author.Needs.{needs}
-use Rattle.text.specs.declared.number.Line.{Line}
-use Rattle.text.specs.declared.number.Line.the-variants.{Is}
-use Rattle.text.specs.Number.{digitsOf, plainOf, longer, numberOf}
-use Rattle.text.proofs.Signed.{kept}
-use Rattle.text.proofs.Lines.{Between, number-between}
+use Rattle.text_rules.specs.declared.number.Line.{Line}
+use Rattle.text_rules.specs.declared.number.Line.the-variants.{Is}
+use Rattle.text_rules.specs.Number.{digitsOf, plainOf, longer, numberOf}
+use Rattle.text_rules.proofs.Signed.{kept}
+use Rattle.text_rules.proofs.Lines.{Between, number-between}
 use Rattle.text.proofs.line.behind.Statement.{statement}
 use Rattle.text.proofs.line.behind.Tie as tie
 

@@ -6,9 +6,9 @@ use mathlib.Core.Bool.{Bool, true, false, cond}
 use mathlib.Core.List.{List}
 use lib.ListN.{length, drop, drop-of-length-le}
 use lib.Seq.{drop-cons}
-use Rattle.text.specs.declared.line.Fit.{Fit}
-use Rattle.text.specs.declared.line.Fit.the-variants.{Yes, Begun, No}
-use Rattle.text.specs.Line.{fitOf}
+use Rattle.text_rules.specs.declared.line.Fit.{Fit}
+use Rattle.text_rules.specs.declared.line.Fit.the-variants.{Yes, Begun, No}
+use Rattle.text_rules.specs.Line.{fitOf}
 use Rattle.text.proofs.line.fit_name.Statement.{statement}
 use Rattle.text.proofs.line.fit_name.Tie as tie
 

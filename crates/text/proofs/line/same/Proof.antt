@@ -9,8 +9,8 @@ use mathlib.Core.List.{List}
 use lib.Dec.{eqb}
 use lib.ListN.{length, getD, drop}
 use lib.Seq.{drop-cons}
-use Rattle.text.specs.declared.line.Fit.the-variants.{No}
-use Rattle.text.specs.Line.{fitOf}
+use Rattle.text_rules.specs.declared.line.Fit.the-variants.{No}
+use Rattle.text_rules.specs.Line.{fitOf}
 use Rattle.text.proofs.line.same.Statement.{statement}
 use Rattle.text.proofs.line.same.Tie as tie
 

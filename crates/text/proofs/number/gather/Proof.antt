@@ -8,8 +8,8 @@ use mathlib.Core.Bool.{true, false}
 use mathlib.Core.List.{List}
 use lib.ListN.{getD}
 use borrow.Author.Tests.{lt-ltb, le-ltb}
-use Rattle.text.specs.Number.{isDigit, gatherFrom, digitsOf}
-use Rattle.text.proofs.Digits.{grown}
+use Rattle.text_rules.specs.Number.{isDigit, gatherFrom, digitsOf}
+use Rattle.text_rules.proofs.Digits.{grown}
 use Rattle.text.proofs.number.gather.Statement.{statement}
 use Rattle.text.proofs.number.gather.Tie as tie
 

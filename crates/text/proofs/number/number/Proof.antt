@@ -9,10 +9,10 @@ use mir.Val.{Fits}
 use borrow.Rule.Slice.PartAt.{part-to-end}
 use borrow.Author.Needs.{needs}
 use borrow.Author.Tests.{eq-eqb, ne-eqb}
-use Rattle.text.specs.Number.{plainOf, longer, numberOf}
-use Rattle.text.specs.declared.number.Line.the-variants.{Is}
-use Rattle.text.proofs.Signed.{kept}
-use Rattle.text.proofs.Lines.{inside, Between, plain-between}
+use Rattle.text_rules.specs.Number.{plainOf, longer, numberOf}
+use Rattle.text_rules.specs.declared.number.Line.the-variants.{Is}
+use Rattle.text_rules.proofs.Signed.{kept}
+use Rattle.text_rules.proofs.Lines.{inside, Between, plain-between}
 use Rattle.text.proofs.number.number.Statement.{statement}
 use Rattle.text.proofs.number.number.Tie as tie
 

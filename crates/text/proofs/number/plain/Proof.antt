@@ -11,11 +11,11 @@ use mir.Syntax.{w32}
 use mir.Val.{SFits, toZ}
 use borrow.Author.Needs.{needs}
 use borrow.Author.Tests.{le-leb, lt-leb, eq-eqb, ne-eqb}
-use Rattle.text.specs.declared.number.Line.{Line}
-use Rattle.text.specs.declared.number.Line.the-variants.{Is, Never}
-use Rattle.text.specs.Number.{plainOf, signedAs}
-use Rattle.text.proofs.Digits.{digits-small}
-use Rattle.text.proofs.Signed.{mag-signed, fits, kept, unsigned, negated}
+use Rattle.text_rules.specs.declared.number.Line.{Line}
+use Rattle.text_rules.specs.declared.number.Line.the-variants.{Is, Never}
+use Rattle.text_rules.specs.Number.{plainOf, signedAs}
+use Rattle.text_rules.proofs.Digits.{digits-small}
+use Rattle.text_rules.proofs.Signed.{mag-signed, fits, kept, unsigned, negated}
 use Rattle.text.proofs.number.plain.Statement.{statement}
 use Rattle.text.proofs.number.plain.Tie as tie
 

@@ -11,17 +11,17 @@ use types.Run.{OneOf, miss}
 use denote.Enum as E
 use borrow.Rule.Slice.PartAt.{part-to-end}
 use borrow.Author.Needs.{needs}
-use Rattle.text.specs.declared.number.Line.{Line}
-use Rattle.text.specs.declared.number.Line.the-variants.{Is, Short, Never}
-use Rattle.text.specs.declared.record.Parsed.{Parsed}
-use Rattle.text.specs.declared.record.Parsed.the-variants.{Malformed}
-use Rattle.text.specs.Names.{kindName, aName, bName, cName}
-use Rattle.text.specs.declared.line.Fit.{Fit}
-use Rattle.text.specs.Line.{behindName, lineOf}
-use Rattle.text.specs.Record.{next, recordOf}
-use Rattle.text.proofs.Signed.{kept}
-use Rattle.text.proofs.Lines.{read-between, read-from}
-use Rattle.text.proofs.number.Line as line
+use Rattle.text_rules.specs.declared.number.Line.{Line}
+use Rattle.text_rules.specs.declared.number.Line.the-variants.{Is, Short, Never}
+use Rattle.text_rules.specs.declared.record.Parsed.{Parsed}
+use Rattle.text_rules.specs.declared.record.Parsed.the-variants.{Malformed}
+use Rattle.text_rules.specs.Names.{kindName, aName, bName, cName}
+use Rattle.text_rules.specs.declared.line.Fit.{Fit}
+use Rattle.text_rules.specs.Line.{behindName, lineOf}
+use Rattle.text_rules.specs.Record.{next, recordOf}
+use Rattle.text_rules.proofs.Signed.{kept}
+use Rattle.text_rules.proofs.Lines.{read-between, read-from}
+use Rattle.text_rules.proofs.number.Line as line
 use Rattle.text.proofs.record.read_record.Statement.{statement}
 use Rattle.text.proofs.record.read_record.Tie as tie
 

@@ -1,0 +1,13 @@
+-- `chip::task::heard` meets its contract, by whether the address is the chip's. Assumes nothing.
+use borrow.Author.Tests.{eq-eqb, ne-eqb}
+use Rattle.chip.proofs.task.heard.Statement.{statement}
+use Rattle.chip.proofs.task.heard.Tie as tie
+
+returns : tie.Need-returns
+returns c = rw (eq-eqb _ _ (c .if1 .taken))
+
+returns-2 : tie.Need-returns-2
+returns-2 c = rw (ne-eqb _ _ (c .if1 .left))
+
+pub heard-spec : {M : Type 1} → statement M
+heard-spec = tie.close (tie.spec returns returns-2)

@@ -1,7 +1,0 @@
--- Document 01, Traces and their replay. The text of records and answers is the crate text's, the step the rules'.
-pub mod Play
-pub mod Room
-pub mod Replay
-pub mod Consumed
-pub mod Alarms
-pub mod Examples

@@ -1,0 +1,3 @@
+// A chip's state saved as bytes, and loaded from them.
+pub mod load;
+pub mod save;
