@@ -58,6 +58,36 @@ static int32_t by_event(int32_t address, const uint8_t *trace, size_t trace_len,
     return DLAVETH_DONE;
 }
 
+/* The trace in portions, as its recorder would leave them. Room for the answers is what is left of the output. */
+static int32_t in_portions(int32_t address, const uint8_t *trace, size_t trace_len, size_t portion_len,
+                           uint8_t *output, size_t output_len, uint8_t *report, size_t report_len)
+{
+    uint8_t session[DLAVETH_SESSION_BYTES], progress[DLAVETH_PROGRESS_BYTES];
+    size_t taken = 0, written = 0;
+    int32_t code = dlaveth_open(address, session, sizeof session);
+
+    while (code == DLAVETH_DONE && taken < trace_len) {
+        size_t len = trace_len - taken < portion_len ? trace_len - taken : portion_len;
+        code = dlaveth_feed(session, sizeof session, trace + taken, len, taken + len == trace_len, output + written, output_len - written,
+                            report, report_len, progress, sizeof progress);
+        taken += len;
+        written += (size_t)(progress[4] | progress[5] << 8 | progress[6] << 16);
+    }
+    return code;
+}
+
+static int32_t by_pages(int32_t address, const uint8_t *trace, size_t trace_len, uint8_t *output, size_t output_len,
+                        uint8_t *report, size_t report_len)
+{
+    return in_portions(address, trace, trace_len, 4096, output, output_len, report, report_len);
+}
+
+static int32_t by_bytes(int32_t address, const uint8_t *trace, size_t trace_len, uint8_t *output, size_t output_len,
+                        uint8_t *report, size_t report_len)
+{
+    return in_portions(address, trace, trace_len, 1, output, output_len, report, report_len);
+}
+
 typedef struct {
     const char *name, *title;
     replayer *run;
@@ -69,8 +99,10 @@ static const runner runners[] = {
     { "o3", "second -O3", o3_replay },
     { "copy", "memcpy", copy },
     { "events", "events", by_event },
+    { "pages", "in portions of 4 KiB", by_pages },
+    { "bytes", "byte by byte", by_bytes },
 };
-enum { REPLAYERS = 3, RUNNERS = 4, COUNTED = 5 };
+enum { REPLAYERS = 3, RUNNERS = 4, COUNTED = 7 };
 
 /* ---- traces ---- */
 

@@ -15,7 +15,7 @@ warn=(-std=c11 -Wall -Wextra -Wpedantic -Wconversion)
 objects=()
 for level in 2 3; do
     own=()
-    for name in replay step fresh seen_counts; do    # every global name of the second model, so that it can stand twice in one program
+    for name in replay step fresh seen_counts well_formed answer_fits write_answer write_word; do    # every global name of the second model, so that it can stand twice in one program
         own+=("-Dsecond_$name=o${level}_$name")
     done
     for file in second second_replay; do             # -g changes no instruction, and tells which function each one comes from
@@ -62,7 +62,7 @@ else
     counter=(valgrind)
 fi
 
-declare -A entry=([project]=replay [o2]=o2_replay [o3]=o3_replay [events]=dlaveth_event)
+declare -A entry=([project]=replay [o2]=o2_replay [o3]=o3_replay [events]=dlaveth_event [pages]=dlaveth_feed [bytes]=dlaveth_feed)
 
 # Counts one replay: who, trace, bytes at most. Sets bytes, records, total; $out/WHO-TRACE-BYTES.out has the count of each address.
 count() {
@@ -99,6 +99,19 @@ while read -r trace longest sixteenth <&3; do
     if [[ $trace == short ]]; then sixteenth=$longest; fi
     count events "$trace" "$sixteenth"
     printf '%-8s %9s %12s %10s\n' "$trace" "$records" "$total" "$(per "$total" "$records")"
+done 3<"$out/sizes"
+
+echo
+echo "== Instructions in dlaveth_feed, the trace in portions (wanted: in portions of 4 KiB at most 1.1 times one replay)"
+while read -r trace longest sixteenth <&3; do
+    if [[ $trace == short ]]; then continue; fi
+    count pages "$trace" "$sixteenth"
+    pages=$total
+    count bytes "$trace" "$((sixteenth / 64))"
+    part=$total part_len=$bytes
+    count bytes "$trace" "$((sixteenth / 16))"
+    printf '%-8s 4 KiB: %s times one replay; 1 byte: %s instructions for each byte, %s of four times the trace\n' "$trace" \
+        "$(per "$pages" "${small[project-$trace]}")" "$(per "$part" "$part_len")" "$(per "$total" "$bytes")"
 done 3<"$out/sizes"
 
 echo

@@ -1,5 +1,6 @@
 /* second.c - the chip: registers, comparisons, status, ALERT and THERM. See second.h. */
 #include "second.h"
+#include "second_inside.h"
 
 #include <stdbool.h>
 #include <string.h>
@@ -100,7 +101,7 @@ static int needed_number(const second_chip *chip)
     return needed;
 }
 
-static bool well_formed(const second_chip *chip)
+bool second_well_formed(const second_chip *chip)
 {
     int stray = 0;
     for (int i = 0; i < SECOND_REGISTERS; i++)
@@ -370,7 +371,7 @@ static bool fields_fit(int32_t kind, int32_t a, int32_t b, int32_t c)
 /* The code the event is answered: 0, or the first reason to refuse it. */
 static int judge(const second_chip *chip, int32_t kind, int32_t a, int32_t b, int32_t c)
 {
-    if (!well_formed(chip))
+    if (!second_well_formed(chip))
         return SECOND_BAD_STATE;
     if (!within(kind, RESET, END))
         return SECOND_BAD_KIND;

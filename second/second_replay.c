@@ -1,12 +1,9 @@
 /* second_replay.c - traces and their replay. See second.h. */
 #include "second.h"
+#include "second_inside.h"
 
 #include <stdbool.h>
 #include <string.h>
-
-typedef struct {
-    int32_t kind, a, b, c;
-} record;
 
 enum { MOST_DIGITS = 5 };
 
@@ -42,7 +39,7 @@ static inline size_t read_line(const uint8_t *rest, size_t len, const char *name
 }
 
 /* Reads one record from the start of `rest`. Gives its length, or 0 if there is none. */
-static size_t read_record(const uint8_t *rest, size_t len, record *event)
+static size_t read_record(const uint8_t *rest, size_t len, second_record *event)
 {
     size_t at = 0, line;
 
@@ -97,8 +94,7 @@ static inline uint8_t *write_line(uint8_t *to, const char *name, int number)
     return to;
 }
 
-/* Writes an answer, answer_length(answer) bytes and no more, and gives that length. */
-static size_t write_answer(uint8_t *output, second_answer answer)
+size_t second_write_answer(uint8_t *output, second_answer answer)
 {
     uint8_t *to = output;
     to = write_line(to, "code=", answer.code);
@@ -108,7 +104,7 @@ static size_t write_answer(uint8_t *output, second_answer answer)
     return (size_t)(to - output);
 }
 
-static void write_word(uint8_t *to, size_t number)
+void second_write_word(uint8_t *to, size_t number)
 {
     for (int i = 0; i < 4; i++)
         to[i] = (uint8_t)(number >> (8 * i) & 0xFF);
@@ -116,9 +112,8 @@ static void write_word(uint8_t *to, size_t number)
 
 /* ---- the replay ---- */
 
-/* Whether the event's answer fits in `room` bytes; where that is not plain, it is
-   tried on a copy. Changes neither the chip nor the counters. */
-static bool answer_fits(const second_chip *chip, const record *event, size_t room)
+/* Where it is not plain that the answer fits, the event is tried on a copy. */
+bool second_answer_fits(const second_chip *chip, const second_record *event, size_t room)
 {
     if (room >= LONGEST_ANSWER)
         return true;
@@ -143,27 +138,27 @@ int32_t second_replay(int32_t address,
         return SECOND_BAD_FIELD;
 
     while (used < trace_len) {
-        record event;
+        second_record event;
         size_t length = read_record(trace + used, trace_len - used, &event);
         if (length == 0) {
             code = SECOND_MALFORMED;
             SECOND_SEEN(code[SECOND_MALFORMED]);
             break;
         }
-        if (!answer_fits(&chip, &event, output_len - written)) {
+        if (!second_answer_fits(&chip, &event, output_len - written)) {
             code = SECOND_NO_ROOM;
             SECOND_SEEN(code[SECOND_NO_ROOM]);
             break;
         }
         second_answer answer = second_step(&chip, event.kind, event.a, event.b, event.c);
-        written += write_answer(output + written, answer);
+        written += second_write_answer(output + written, answer);
         used += length;
         records++;
     }
 
-    write_word(report, (size_t)code);
-    write_word(report + 4, records);
-    write_word(report + 8, used);
-    write_word(report + 12, written);
+    second_write_word(report, (size_t)code);
+    second_write_word(report + 4, records);
+    second_write_word(report + 8, used);
+    second_write_word(report + 12, written);
     return code;
 }

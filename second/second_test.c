@@ -693,17 +693,6 @@ static void replay_at(int line, int32_t address, const char *trace, size_t len, 
 #define REPLAY(trace, room, code, records, used, answers) \
     replay_at(__LINE__, 76, trace, strlen(trace), room, code, records, used, answers)
 
-#define RECORD(k, a, b, c) "kind=" #k "\na=" #a "\nb=" #b "\nc=" #c "\n"
-#define ANSWER(code, reply, alert, therm) \
-    "code=" #code "\nreply=" #reply "\nalert=" #alert "\ntherm=" #therm "\n"
-
-#define WHOLE_CASE RECORD(6, 0, 0, 0) RECORD(7, 20, 341, 0) RECORD(3, 76, 2, 0)
-#define WHOLE_ANSWERS ANSWER(0, 0, 1, 1) ANSWER(0, 0, 0, 0) ANSWER(0, 18, 0, 0)
-#define K11 RECORD(3, 76, 2, 0) RECORD(6, 0, 0, 0) RECORD(7, 20, 300, 0) RECORD(3, 76, 2, 0) \
-    RECORD(3, 76, 2, 0) RECORD(5, 0, 0, 0) RECORD(5, 0, 0, 0)
-#define K11_ANSWERS ANSWER(0, 18, 0, 0) ANSWER(0, 0, 0, 0) ANSWER(0, 0, 0, 1) ANSWER(0, 16, 0, 1) \
-    ANSWER(0, 0, 0, 1) ANSWER(0, 153, 1, 1) ANSWER(3, 0, 1, 1)
-
 static void test_replay(void)
 {
     const char *whole = "kind=6\na=0\nb=0\nc=0\nkind=7\na=20\nb=341\nc=0\nkind=3\na=76\nb=2\nc=0\n";
@@ -1001,6 +990,7 @@ int main(void)
     test_counters();
     test_walks();
     test_history();
+    test_session();
     printf("%d passed, %d failed\n", passed, failed);
     return failed != 0;
 }

@@ -1,15 +1,19 @@
 #!/usr/bin/env python3
-"""Tries tools/answer.sh and tools/show.py, on bad input, files and devices too, and what the scripts tell a terminal. Needs the library, as
-examples/run.sh does. The last line is 'N passed, M failed'.
+"""Tries tools/answer.sh and tools/show.py, on slow pipes, bad input, files and devices too, and what the scripts tell a terminal. Needs the
+library, as examples/run.sh does. The last line is 'N passed, M failed'.
 """
+import fcntl
 import os
 import pty
+import random
 import re
 import resource
+import select
 import shutil
 import signal
 import subprocess
 import tempfile
+import termios
 import time
 from pathlib import Path
 
@@ -18,7 +22,7 @@ from checks import check, differs, end
 ROOT = Path(__file__).resolve().parent.parent
 TOOLS = ROOT / "tools"
 TRACES = ROOT / "tests" / "traces"
-MOST = 16 * 1024 * 1024    # bytes of a trace, and of its answers
+MOST = 16 * 1024 * 1024    # bytes of a trace
 NUMBER = ": 1 to 5 digits, a minus before them where negative, no plus, no leading zero, no -0, no space"
 
 
@@ -37,6 +41,7 @@ def answer(*numbers):
 
 
 START = record(6, 0, 0, 0)
+FIRST, LATER = answer(0, 0, 1, 1), answer(4, 0, 1, 1)    # to a first start, and to one while a conversion runs
 
 
 def held(room):
@@ -64,9 +69,9 @@ def recorded(room):
         lines = answers.count("\n")    # a record has as many
         used = len(b"".join(trace.read_bytes().splitlines(True)[:lines]))
         place = f"{trace}:{lines + 1}: no record begins here (record {lines // 4 + 1}, behind {used} bytes): "
-        if have[:2] != (1, "") or not have[2].startswith(place) or have[2].count("\n") != 1:
+        if have[:2] != (1, answers) or not have[2].startswith(place) or have[2].count("\n") != 1:
             wrong.append(f"{name}: {place!r} wanted, {have} found")
-    check(f"{seen} recorded traces are answered as recorded, or refused with the place", wrong or ([] if seen > 60 else ["so few"]))
+    check(f"{seen} recorded traces are answered as recorded, and those that stop say where", wrong or ([] if seen > 60 else ["so few"]))
     check("both addresses are among them", differs(addresses, {"76", "77"}))
 
 
@@ -98,6 +103,151 @@ def streams(room):
     check("an empty trace makes an empty file", differs((done, (room / "none").read_text()), ((0, "", ""), "")))
 
 
+# ---- a trace as it arrives
+
+WAIT = 30    # seconds; only a tool that is wrong takes so long
+
+
+def begun(*words, **more):
+    """The tool, to be given its trace through a pipe."""
+    return subprocess.Popen([TOOLS / "answer.sh", *words], **{"stdin": subprocess.PIPE, "stdout": subprocess.PIPE, "stderr": subprocess.PIPE, "bufsize": 0} | more)
+
+
+def taken(program):
+    """Waits until the tool has read all that it was given."""
+    since = time.monotonic()
+    while int.from_bytes(fcntl.ioctl(program.stdin, termios.FIONREAD, b"\0" * 4), "little") and program.poll() is None and time.monotonic() < since + WAIT:
+        time.sleep(0.0005)
+
+
+def give(program, text):
+    """Hands over a portion, which is read before the next comes."""
+    program.stdin.write(text.encode())
+    taken(program)
+
+
+def come(program, length, seconds=WAIT):
+    """So many bytes of the answers, or what has come of them after so long."""
+    found, until = b"", time.monotonic() + seconds
+    while len(found) < length and select.select([program.stdout], [], [], max(0, until - time.monotonic()))[0]:
+        if not (part := os.read(program.stdout.fileno(), length - len(found))):
+            break
+        found += part
+    return found.decode()
+
+
+def over(program):
+    """Exit code, the rest of the answers and what was said, of a tool that ends by itself."""
+    try:
+        out, said = program.communicate(timeout=WAIT)
+    except subprocess.TimeoutExpired:
+        program.kill()
+        return "it does not end"
+    return program.returncode, (out or b"").decode(), said.decode()
+
+
+def arriving(room):
+    case, answers = (TRACES / "k11.trace").read_text(), (TRACES / "k11.answers").read_text()
+    each = re.findall(r"(?:.*\n){4}", answers)
+    tool = begun()
+    wrong = []
+    for text, count in zip(re.findall(r"(?:.*\n){4}", case), each, strict=True):
+        for byte in text[:-1]:
+            give(tool, byte)
+        wrong += differs(come(tool, 1, 0.02), "")
+        give(tool, text[-1])
+        wrong += differs(come(tool, len(count)), count)
+    check("byte by byte: an answer comes with the last byte of its record, before the pipe is closed", wrong + differs(over(tool), (0, "", "")))
+
+    tool = begun("-o", room / "out", stdout=subprocess.DEVNULL)
+    give(tool, START + "kind=7\na=2")
+    until = time.monotonic() + WAIT
+    while (not (room / "out").exists() or len((room / "out").read_text()) < len(FIRST)) and time.monotonic() < until:
+        time.sleep(0.001)
+    have = (room / "out").read_text()
+    give(tool, "0\nb=34")
+    give(tool, "1\nc=0\nkind=3\na=76\nb=2\nc=0\n")
+    tool.stdin.close()
+    done = tool.wait(WAIT), tool.stderr.read(), (room / "out").read_text()
+    check("a file has each answer as it comes too, of a trace cut inside its numbers",
+          differs((have, done), (FIRST, (0, b"", FIRST + answer(0, 0, 0, 0) + answer(0, 18, 0, 0)))))
+
+    trace, answers = [(TRACES / f"address-77.{end}").read_text() for end in ("trace", "answers")]
+    tool, some, at = begun("--address", "77"), random.Random(7), 0
+    while at < len(trace):
+        size = some.randrange(60)
+        give(tool, trace[at:at + size])
+        at += size
+    check("the other address, in portions of any size", differs(over(tool), (0, answers, "")))
+
+    tool = begun()
+    give(tool, START + "kind=6\na=0")
+    have = come(tool, len(FIRST))
+    for sent in signal.SIGSTOP, signal.SIGCONT, signal.SIGWINCH:
+        tool.send_signal(sent)
+    give(tool, "0\n")
+    where = "standard input:5: no record begins here (record 2, behind 19 bytes): line 6 is 'a=00"
+    done = tool.wait(WAIT), tool.stdout.read(), tool.stderr.read().decode()
+    check("a malformed record ends it at once, while the pipe is open", differs((have, done[:2], done[2].startswith(where)), (FIRST, (1, b""), True)))
+    tool.stdin.close()
+
+    tool = begun()
+    give(tool, START + "kind=6\na=0\nb=0\nc=0")
+    have = come(tool, len(FIRST) + 1, 0.3), tool.poll()
+    said = "standard input:5: no record begins here (record 2, behind 19 bytes): line 8, the last, is 'c=0', and no byte 10 ends it\n"
+    check("a partial record is one only at the end", differs((have, over(tool)), ((FIRST, None), (1, "", said))))
+
+    tool = begun()
+    give(tool, START)
+    have = come(tool, len(FIRST))
+    tool.stdout.close()
+    give(tool, START)
+    done = tool.wait(WAIT), tool.stderr.read()
+    check("a reader that leaves", differs((have, done), (FIRST, (1, b"standard output: Broken pipe\n"))))
+    tool.stdin.close()
+
+    ours, theirs = os.pipe()
+    os.set_blocking(ours, False)    # as another program that shares it may
+    tool = begun(stdin=ours)
+    for part in START, START[:9], START[9:]:
+        time.sleep(0.05)
+        os.write(theirs, part.encode())
+    have = come(tool, len(FIRST + LATER))
+    os.close(theirs)
+    os.close(ours)
+    check("a pipe that does not wait", differs((have, over(tool)), (FIRST + LATER, (0, "", ""))))
+
+    grows = room / "grows.trace"
+    grows.write_text(START)
+    tail = subprocess.Popen(["tail", "-n", "+1", "-f", grows], stdout=subprocess.PIPE)
+    tool = begun(stdin=tail.stdout)
+    tail.stdout.close()
+    have = come(tool, len(FIRST))
+    with grows.open("a") as file:
+        file.write(START)
+    have += come(tool, len(LATER))
+    tail.terminate()
+    tail.wait()
+    check("a file that grows, through tail -f", differs((have, over(tool)), (FIRST + LATER, (0, "", ""))))
+
+
+def bounded(room):
+    """What the tool has in memory at its most, after a little and after 16 MiB."""
+    def most():
+        taken(tool)
+        return int(re.search(r"^VmHWM:\s*(\d+) kB$", Path(f"/proc/{tool.pid}/status").read_text(), re.M)[1])
+
+    tool = begun(stdout=subprocess.DEVNULL)
+    part, given, measured = START * 4096, 0, []
+    while given + len(part) <= MOST:
+        give(tool, part)
+        given += len(part)
+        if not measured and given > 1 << 20:
+            measured.append(most())
+    measured.append(most())
+    check("16 MiB take no more memory than 1", differs(over(tool), (0, "", "")) + ([] if measured[1] < measured[0] + 512 else [f"{measured} KiB"]))
+
+
 # ---- messages
 
 # What stands behind two good records; the line that is wrong, and what is said of it.
@@ -119,13 +269,19 @@ BAD = [
     ("kind=03\r\n", r"line 9 is 'kind=03\x0d', and kind=NUMBER is wanted" + NUMBER),
     ("\x1b[31m\0it's\\\xff\n", r"line 9 is '\x1b[31m\x00it\x27s\x5c\xff', and kind=NUMBER is wanted"),
     ("x" * 300000 + "\n", f"line 9 is '{'x' * 40}'.., and kind=NUMBER is wanted"),
-    ("kind=" + "1" * 300000, f"line 9, the last, is 'kind={'1' * 35}'.., and kind=NUMBER is wanted" + NUMBER),
+    ("kind=" + "1" * 300000, f"line 9 is 'kind={'1' * 35}'.., and kind=NUMBER is wanted" + NUMBER),
+    ("kind=" + "1" * 30, f"line 9, the last, is 'kind={'1' * 30}', and kind=NUMBER is wanted" + NUMBER),
     ("kind=3\n", "the trace ends where line 10, a=NUMBER, is wanted"),
     ("kind=3\na=76\nb=2\n", "the trace ends where line 12, c=NUMBER, is wanted"),
     ("kind=3\na=76\nb=2\nc=0", "line 12, the last, is 'c=0', and no byte 10 ends it"),
     ("kind=3\na=7", "line 10, the last, is 'a=7', and no byte 10 ends it"),
     ("ki", "line 9, the last, is 'ki', and kind=NUMBER is wanted"),
 ]
+
+
+def longer(more):
+    """A record of so many bytes more than the shortest, at most 16."""
+    return "kind=%s\na=%s\nb=%s\nc=%s\n" % tuple("1" * (1 + max(0, min(4, more - 4 * line))) for line in range(4))
 
 
 def malformed(room):
@@ -135,42 +291,49 @@ def malformed(room):
     for text, what in BAD:
         data = (START * 2 + text).encode("latin-1")
         trace.write_bytes(data)
+        out.write_text("as it was")
         wrong += differs(run("answer.sh", trace, "-o", out), (1, "", f"{trace}:{place}{what}\n"))
-        if [one.name for one in room.iterdir()] != ["bad.trace"]:
-            wrong.append(f"it leaves {list(room.iterdir())}")
-    check(f"{len(BAD)} malformed records are refused by their place, and no file appears", wrong)
-    check("nothing before it reaches standard output", differs(run("answer.sh", given=data), (1, "", f"standard input:{place}{BAD[-1][1]}\n")))
-    out.write_text("as it was")
-    code, _, _ = run("answer.sh", trace, "-o", out)
-    check("an older file stays as it was", differs((code, sorted(one.name for one in room.iterdir()), out.read_text()), (1, ["bad.trace", "x.answers"], "as it was")))
+        wrong += differs((sorted(one.name for one in room.iterdir()), out.read_text()), (["bad.trace", "x.answers"], FIRST + LATER))
+    check(f"{len(BAD)} malformed records are refused by their place, and the file has the answers before them", wrong)
+    check("and so has standard output", differs(run("answer.sh", given=data), (1, FIRST + LATER, f"standard input:{place}{BAD[-1][1]}\n")))
+    wrong, portion = [], 65536
+    for at in range(portion - 20, portion + 2):    # the tool reads so much at once
+        count, more = divmod(at, len(START))
+        trace.write_text(longer(more // 2) + longer(more - more // 2) + START * (count - 2) + "kind=3\na=76\nb=+2\nc=0\n")
+        place = f"{4 * count + 1}: no record begins here (record {count + 1}, behind {at} bytes): line {4 * count + 3}"
+        wrong += differs(run("answer.sh", trace)[::2], (1, f"{trace}:{place} is 'b=+2', and b=NUMBER is wanted{NUMBER}\n"))
+    check("a malformed record on the border of two portions is told of as any other", wrong)
 
 
 def too_much(room):
     trace, out = room / "big.trace", room / "x.answers"
     # 430184 of the longest record and two of 20 bytes are 16 MiB; each is refused with code 1.
-    trace.write_text(record(-99999, -99999, -99999, -99999) * 430184 + record(10, 0, 0, 0) * 2)
+    whole = record(-99999, -99999, -99999, -99999) * 430184 + record(10, 0, 0, 0) * 2
+    trace.write_text(whole)
     done = run("answer.sh", trace)
     check("a trace of 16 MiB is answered", differs((trace.stat().st_size, done[0], done[1] == answer(1, 0, 1, 1) * 430186, done[2]), (MOST, 0, True, "")))
-    out.write_text("as it was")
-    with trace.open("a") as file:
-        file.write("\n")
-    said = "too long, a trace has at most 16777216 bytes (16 MiB)\n"
-    done = run("answer.sh", trace, "-o", out), run("answer.sh", given=trace.read_bytes()), held(room)["x.answers"]
-    check("one byte more is refused", differs(done, ((1, "", f"{trace}: {said}"), (1, "", f"standard input: {said}"), "as it was")))
-    endless = subprocess.Popen(["yes"], stdout=subprocess.PIPE)
+    said = "too long, a trace has at most 16777216 bytes (16 MiB): its first %d records are answered\n"
+    count, wanted = 430186, answer(1, 0, 1, 1) * 430186
+    for what, text in [("one byte more", whole + "x"), ("a record more", whole + START), ("a record over the border", "kind=-9999" + whole[11:] + START)]:
+        trace.write_text(text)
+        done = run("answer.sh", trace, "-o", out), run("answer.sh", given=text.encode())
+        check(f"{what} is too long, and what is whole within 16 MiB is answered",
+              differs((done[0], out.read_text() == wanted, done[1][0], done[1][1] == wanted, done[1][2]),
+                      ((1, "", f"{trace}: {said % count}"), True, 1, True, f"standard input: {said % count}")))
+    trace.write_text(whole[:-1] + "x" + START)
+    place = "1720741: no record begins here (record 430186, behind 16777196 bytes): line 1720744 is 'c=0xkind=6', and c=NUMBER is wanted"
+    done = run("answer.sh", trace)
+    check("a record that is malformed before that is told of",
+          differs((done[0], done[1] == answer(1, 0, 1, 1) * 430185, done[2]), (1, True, f"{trace}:{place}{NUMBER}\n")))
+    endless = subprocess.Popen(["yes", START[:-1]], stdout=subprocess.PIPE)
     done = subprocess.run([TOOLS / "answer.sh"], stdin=endless.stdout, capture_output=True, timeout=60)
     endless.stdout.close()
     endless.wait()
-    check("and so is an input without end", differs((done.returncode, done.stdout, done.stderr.decode()), (1, b"", f"standard input: {said}")))
-    # 541200 answers of 31 bytes leave 16 bytes of 16 MiB.
-    trace.write_text(START * 541200)
+    check("an input without end", differs((done.returncode, done.stdout.decode() == FIRST + LATER * 883010, done.stderr.decode()),
+                                          (1, True, f"standard input: {said % 883011}")))
+    trace.write_text(START * 883011)
     done = run("answer.sh", trace)
-    check("answers of nearly 16 MiB", differs((done[0], done[1] == answer(0, 0, 1, 1) + answer(4, 0, 1, 1) * 541199, done[2]), (0, True, "")))
-    trace.write_text(START * 541202)
-    said = "no room for the answer to this record (record 541201, behind 10282800 bytes): the answers together have at most 16777216 bytes (16 MiB)"
-    done = run("answer.sh", trace, "-o", out)
-    check("one answer more is refused by its place", differs((done, sorted(one.name for one in room.iterdir()), out.read_text()),
-                                                             ((1, "", f"{trace}:2164801: {said}\n"), ["big.trace", "x.answers"], "as it was")))
+    check("answers of 27 MB", differs((done[0], done[1] == FIRST + LATER * 883010, done[2]), (0, True, "")))
 
 
 def files(room):
@@ -189,6 +352,8 @@ def files(room):
     for words, code, said in [
         ([room / "none"], 1, f"{room}/none: No such file or directory"),
         ([room], 1, f"{room}: Is a directory"),
+        ([room, "-o", out], 1, f"{room}: Is a directory"),
+        ([room / "none", "-o", out], 1, f"{room}/none: No such file or directory"),
         ([""], 1, ": No such file or directory"),
         ([loop], 1, f"{loop}: Too many levels of symbolic links"),
         (["/proc/self/mem"], 1, "/proc/self/mem: Input/output error"),
@@ -217,20 +382,19 @@ def devices(room):
     with open("/dev/full", "w") as full:
         done = subprocess.run([TOOLS / "answer.sh", trace], stdout=full, stderr=subprocess.PIPE, text=True)
     check("a full device", differs((done.returncode, done.stderr), (1, "standard output: No space left on device\n")))
-    out.write_text("as it was")
     limit = 100 * 1024    # of the answers' 600 KB
+    answers = (FIRST + LATER * 19999)[:limit]
     done = run("answer.sh", trace, "-o", out, preexec_fn=lambda: resource.setrlimit(resource.RLIMIT_FSIZE, (limit, limit)))
-    check("a file that may not grow so far, and no part of it is left", differs((done, sorted(one.name for one in room.iterdir()), out.read_text()),
-                                                                                 ((1, "", f"{out}: File too large\n"), ["long.trace", "x.answers"], "as it was")))
-    with (room / "wrote").open("w") as file:
+    check("a file that may not grow so far", differs((done, out.read_text() == answers), ((1, "", f"{out}: File too large\n"), True)))
+    with out.open("w") as file:
         done = subprocess.run([TOOLS / "answer.sh", trace], stdout=file, stderr=subprocess.PIPE, text=True,
                               preexec_fn=lambda: resource.setrlimit(resource.RLIMIT_FSIZE, (limit, limit)))
-    check("nor may standard output", differs((done.returncode, done.stderr), (1, "standard output: File too large\n")))
+    check("nor may standard output", differs((done.returncode, done.stderr, out.read_text() == answers), (1, "standard output: File too large\n", True)))
     ours, theirs = os.pipe()
     os.close(ours)
     done = subprocess.run([TOOLS / "answer.sh", trace], stdout=theirs, stderr=subprocess.PIPE, text=True)
     os.close(theirs)
-    check("a reader that is gone", differs((done.returncode, done.stderr), (1, "")))
+    check("a reader that is gone", differs((done.returncode, done.stderr), (1, "standard output: Broken pipe\n")))
     for number, named in (0, "input"), (1, "output"):
         done = run("answer.sh", *[trace] * number, preexec_fn=lambda: os.close(number))
         check(f"standard {named} is closed", differs(done, (1, "", f"standard {named}: Bad file descriptor\n")))
@@ -239,15 +403,16 @@ def devices(room):
 # ---- what a terminal is told
 
 
-def at_terminal(words, slowed=False, **more):
-    """Runs a command whose standard error is a terminal, and gives exit code, standard output and what the terminal saw. Slowed, it is stopped
-    for most of the time until enough was told, as on a far slower machine: the library needs less than half a second for any trace.
+def at_terminal(words, slowed=False, both=False, **more):
+    """Runs a command whose standard error is a terminal, both where standard output is too, and gives exit code, standard output and what the
+    terminal saw. Slowed, it is stopped for most of the time until enough was told, as on a far slower machine: the library needs less than
+    half a second for any trace.
     """
     ours, theirs = pty.openpty()
     os.set_blocking(ours, False)
     said = b""
     with tempfile.TemporaryFile() as wrote:
-        program = subprocess.Popen(words, stdout=wrote, **{"stdin": subprocess.DEVNULL, "stderr": theirs} | more)
+        program = subprocess.Popen(words, stdout=theirs if both else wrote, **{"stdin": subprocess.DEVNULL, "stderr": theirs} | more)
         os.close(theirs)
         over = False
         while not over:
@@ -286,11 +451,19 @@ def progress(room):
     with (room / "said").open("w") as file:
         code, out, _ = at_terminal([TOOLS / "answer.sh", short], slowed=True, stderr=file)
     check("nor is anything told where there is no terminal", differs((code, out.count("code="), (room / "said").read_text()), (0, 150000, "")))
+    with subprocess.Popen(["sh", "-c", f"cat {short}; sleep 1; head -n 4 {short}; sleep 1"], stdout=subprocess.PIPE) as slow:
+        code, out, said = at_terminal([TOOLS / "answer.sh"], stdin=slow.stdout)
+    told = re.fullmatch(r"(\rrecords answered: \d+)*\rrecords answered: 150000\rrecords answered: 150001\r\x1b\[K", said)
+    check("of a pipe the records are counted, while it waits too", [] if told and (code, out.count("code=")) == (0, 150001) else [repr(said)])
+    with subprocess.Popen(["sh", "-c", f"head -n 4 {short}; sleep 1"], stdout=subprocess.PIPE) as slow:
+        done = at_terminal([TOOLS / "answer.sh"], both=True, stdin=slow.stdout)
+    check("and nothing is told among answers on the terminal", differs(done, (0, "", FIRST.replace("\n", "\r\n"))))
     with trace.open("a") as file:
         file.write("kind=3\n")
     code, out, said = at_terminal([TOOLS / "answer.sh", trace])
     message = f"{trace}:2040001: no record begins here (record 510001, behind 10370000 bytes): the trace ends where line 2040002, a=NUMBER, is wanted\r\n"
-    check("a message stands on a line of its own", [] if (code, out) == (1, "") and re.sub(r"\r[^\r]*answered|\r\x1b\[K", "", said) == message else [repr(said)])
+    check("a message stands on a line of its own",
+          [] if (code, out.count("code=")) == (1, 510000) and re.sub(r"\r[^\r]*answered|\r\x1b\[K", "", said) == message else [repr(said)])
 
 
 def built_first(room):
@@ -393,7 +566,7 @@ def helps(room):
 
 
 def main():
-    for part in recorded, streams, malformed, too_much, files, devices, progress, built_first, shown, helps:
+    for part in recorded, streams, arriving, bounded, malformed, too_much, files, devices, progress, built_first, shown, helps:
         with tempfile.TemporaryDirectory() as room:
             try:
                 part(Path(room))

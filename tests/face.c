@@ -1,7 +1,6 @@
 /*
  * A chip in bytes, driven event by event beside the second model: the same answer after every event, and the same bytes, with chips saved
- * and restored in between. Then damaged bytes, wrong lengths and null pointers. This file knows the layout (docs/LAYOUT.md). Its last line
- * is 'N passed, M failed'.
+ * and restored in between. Then damaged bytes, wrong lengths and null pointers. Its last line is 'N passed, M failed'.
  *     face [EVENTS [SEED]]
  */
 #include <stdbool.h>
@@ -9,6 +8,7 @@
 #include <stdlib.h>
 #include <string.h>
 
+#include "chip_bytes.h"
 #include "dlaveth.h"
 #include "second.h"
 
@@ -32,101 +32,6 @@ static uint32_t any(uint32_t below)
     word ^= word >> 7;
     word ^= word << 17;
     return (uint32_t)((word >> 20) % below);
-}
-
-/* ---- the layout ---- */
-
-enum { REGISTERS_AT = 6, REGISTERS = 14, LOCAL_AT = 20, REMOTE_AT = 30, MEANING = 40 };
-
-static const uint8_t read_at[REGISTERS] = { 0x03, 0x04, 0x05, 0x06, 0x07, 0x08, 0x11, 0x12, 0x13, 0x14, 0x19, 0x20, 0x21, 0x22 };
-
-/* A channel's flags from its third byte on: converted, then found and flag for high, low and open, then THERM. 8 is no bit of the status. */
-static const uint8_t local_bits[3] = { 6, 5, 8 }, remote_bits[3] = { 4, 3, 2 };
-
-static uint8_t bit(unsigned byte, unsigned place)
-{
-    return (uint8_t)(place < 8 ? byte >> place & 1 : 0);
-}
-
-static void channel_out(const second_chip *c, uint8_t *to, unsigned value, unsigned converted, const uint8_t bits[3], unsigned therm)
-{
-    *to++ = (uint8_t)(value % 256);
-    *to++ = (uint8_t)(value / 256);
-    *to++ = (uint8_t)converted;
-    for (int i = 0; i < 3; i++) {
-        *to++ = bit(c->found, bits[i]);
-        *to++ = bit(c->reg[2], bits[i]);
-    }
-    *to = bit(c->reg[2], therm);
-}
-
-static void encode(const second_chip *c, uint8_t bytes[DLAVETH_CHIP_BYTES])
-{
-    memset(bytes, 0, DLAVETH_CHIP_BYTES);
-    bytes[0] = 1;
-    bytes[1] = c->address;
-    bytes[2] = c->pointer;
-    bytes[3] = bit(c->reg[2], 7);
-    bytes[4] = c->run;
-    bytes[5] = c->alert_latch;
-    for (int i = 0; i < REGISTERS; i++)
-        bytes[REGISTERS_AT + i] = c->reg[read_at[i]];
-    channel_out(c, bytes + LOCAL_AT, c->reg[0], bit(c->converted, 0), local_bits, 0);
-    channel_out(c, bytes + REMOTE_AT, c->reg[1] * 4u + c->reg[0x10] / 64u, bit(c->converted, 1), remote_bits, 1);
-}
-
-static void set(uint8_t *byte, unsigned place, unsigned on)
-{
-    if (place < 8)
-        *byte = (uint8_t)(*byte | on << place);
-}
-
-static void channel_in(second_chip *c, const uint8_t *from, unsigned number, const uint8_t bits[3], unsigned therm)
-{
-    set(&c->converted, number, from[2]);
-    for (int i = 0; i < 3; i++) {
-        set(&c->found, bits[i], from[3 + 2 * i]);
-        set(&c->reg[2], bits[i], from[4 + 2 * i]);
-    }
-    set(&c->reg[2], therm, from[9]);
-}
-
-/* Whether bytes are a saved chip: the layout's number, flags of 0 or 1, zeros behind. */
-static bool is_saved(const uint8_t *bytes)
-{
-    bool good = bytes[0] == 1 && bytes[3] <= 1 && bytes[5] <= 1;
-
-    for (int i = 2; i < 10; i++)
-        good &= bytes[LOCAL_AT + i] <= 1 && bytes[REMOTE_AT + i] <= 1;
-    for (int i = MEANING; i < DLAVETH_CHIP_BYTES; i++)
-        good &= bytes[i] == 0;
-    return good;
-}
-
-/* Whether the state that saved bytes hold is well formed; if so it is *c. */
-static bool decode(const uint8_t *bytes, second_chip *c)
-{
-    unsigned local = bytes[LOCAL_AT] + 256u * bytes[LOCAL_AT + 1], remote = bytes[REMOTE_AT] + 256u * bytes[REMOTE_AT + 1];
-    bool good = (bytes[1] == 76 || bytes[1] == 77) && bytes[4] <= 4 && local <= 255 && remote <= 1023 && !bytes[LOCAL_AT + 7] && !bytes[LOCAL_AT + 8];
-
-    memset(c, 0, sizeof *c);
-    c->address = bytes[1];
-    c->pointer = bytes[2];
-    c->run = bytes[4];
-    c->alert_latch = bytes[5];
-    for (int i = 0; i < REGISTERS; i++) {
-        unsigned keeps = read_at[i] == 0x03 ? 0xe4 : read_at[i] >= 0x12 && read_at[i] <= 0x14 ? 0xc0 : 0xff;
-
-        good &= (bytes[REGISTERS_AT + i] & ~keeps) == 0;
-        c->reg[read_at[i]] = bytes[REGISTERS_AT + i];
-    }
-    c->reg[0] = (uint8_t)local;
-    c->reg[1] = (uint8_t)(remote / 4);
-    c->reg[0x10] = (uint8_t)(remote % 4 * 64);
-    set(&c->reg[2], 7, bytes[3]);
-    channel_in(c, bytes + LOCAL_AT, 0, local_bits, 0);
-    channel_in(c, bytes + REMOTE_AT, 1, remote_bits, 1);
-    return good;
 }
 
 /* ---- events ---- */
@@ -202,7 +107,7 @@ static void both(const char *what, uint8_t *chip, second_chip *second, event e)
     uint8_t want[DLAVETH_CHIP_BYTES];
     second_answer told = second_step(second, e.kind, e.a, e.b, e.c);
 
-    encode(second, want);
+    chip_encode(second, want);
     for (int again = 0; again < 2; again++) {
         guarded lent, answer;
         int32_t code;
@@ -227,7 +132,7 @@ static void driven(unsigned long events)
         int32_t address = 76 + i % 2;
 
         check("power on", dlaveth_power_on(address, saved[i], DLAVETH_CHIP_BYTES) == second_fresh(&kept[i], address));
-        encode(&kept[i], chip);
+        chip_encode(&kept[i], chip);
         check("a fresh chip's bytes", memcmp(chip, saved[i], sizeof chip) == 0);
     }
     memcpy(chip, saved[0], sizeof chip);
@@ -261,18 +166,18 @@ static void judged(const uint8_t *bytes)
     int32_t code;
 
     memcpy(chip, bytes, sizeof chip);
-    if (is_saved(bytes) && decode(bytes, &second)) {
+    if (chip_is_saved(bytes) && chip_decode(bytes, &second)) {
         fine++;
         both("a chip that was damaged and is still one", chip, &second, e);
         return;
     }
     memset(answer, 0x5a, sizeof answer);
     code = dlaveth_event(chip, sizeof chip, e.kind, e.a, e.b, e.c, answer, sizeof answer);
-    if (is_saved(bytes)) {
-        unsigned config = bytes[REGISTERS_AT];
+    if (chip_is_saved(bytes)) {
+        unsigned config = bytes[CHIP_REGISTERS_AT];
 
         ill++;
-        check("a state that is not well formed", same(answer, 6, 0, !(bytes[5] && !(config & 0x80) && !(config & 0x20)), !(bytes[LOCAL_AT + 9] || bytes[REMOTE_AT + 9])));
+        check("a state that is not well formed", same(answer, 6, 0, !(bytes[5] && !(config & 0x80) && !(config & 0x20)), !(bytes[CHIP_LOCAL_AT + 9] || bytes[CHIP_REMOTE_AT + 9])));
     } else {
         strange++;
         check("bytes that are no chip", same(answer, 6, 0, 1, 1));
@@ -291,7 +196,7 @@ static void damaged(unsigned long rounds)
         dlaveth_event(chip, sizeof chip, e.kind, e.a, e.b, e.c, answer, sizeof answer);
         memcpy(spoilt, chip, sizeof chip);
         for (uint32_t k = 1 + any(3); k > 0; k--) {
-            uint32_t place = any(4) ? any(MEANING) : any(DLAVETH_CHIP_BYTES);
+            uint32_t place = any(4) ? any(CHIP_MEANING) : any(DLAVETH_CHIP_BYTES);
 
             spoilt[place] = (uint8_t)(any(2) ? spoilt[place] ^ 1u << any(8) : any(any(2) ? 2 : 256));
         }
@@ -345,7 +250,7 @@ static void addressed(int32_t address)
     uint8_t want[DLAVETH_CHIP_BYTES];
     int code = second_fresh(&second, address);
 
-    encode(&second, want);
+    chip_encode(&second, want);
     for (int old = 0; old < 3; old++) {
         guard(&lent, zeros, sizeof zeros);
         if (old > 0) {    /* over a chip that has been through something */

@@ -26,7 +26,7 @@ counted() {
     sum=$((sum + BASH_REMATCH[1]))
 }
 
-"${x86_cc[@]}" -std=c11 "${warnings[@]}" "${sanitizers[@]}" -Iinclude -Isecond tests/face.c second/second.c "$x86_library" -o target/tests/face
+"${x86_cc[@]}" -std=c11 "${warnings[@]}" "${sanitizers[@]}" -Iinclude -Isecond tests/{face,chip_bytes}.c second/second.c "$x86_library" -o target/tests/face
 counted target/tests/face "$@"
 "${x86_cc[@]}" -std=c99 "${warnings[@]}" "${sanitizers[@]}" -Iinclude tests/driver.c "$x86_library" -o target/tests/driver
 counted target/tests/driver

@@ -28,10 +28,11 @@ def unfit(log, at=()):
 # The other files are laws, which restate a definition: one that changes breaks them, whether or not what is claimed is still true.
 SAYING = {
     "rules": ["Tables", "Meant", "Forms", "Answered", "Therm", "Steps", "Status", "Alarm", "Assured", "Commands", "Kept", "Rows", "Judged"],
-    "text_rules": ["Tables", "Written", "Begins", "RecordText", "AnswerText", "Completed", "PutCases"],
+    "text_rules": ["Tables", "Written", "Begins", "RecordText", "AnswerText", "Completed", "Bounded", "PutCases"],
     "replay_rules": ["Examples", "ReplayCases", "Meant", "Alarms", "Consumed", "Room"],
     "console_rules": ["Examples", "Texts"],
     "saved_rules": ["FaceCases", "Saved"],
+    "session_rules": ["Calls", "Portions", "InBytes", "SessionCases"],
 }
 
 

@@ -17,7 +17,9 @@ part() {
 part .ci/run
 part tests/compare/run.sh --seed 7 --count 300000
 part tests/face.sh 5000000 7
+part tests/session.sh 200000 7
 part tests/fuzz/run.sh --minutes 10
+part tests/fuzz/run.sh --portions --minutes 10
 part tests/mutation/run.py
 printf '%s\n' "${said[@]}"
 echo "release check passed"

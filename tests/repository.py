@@ -16,7 +16,7 @@ ROOT = Path(__file__).resolve().parent.parent
 # A public function: its attributes, `pub` or `pub(..)`, words such as `extern "C"`, its name, and all up to its body.
 PUBLIC = re.compile(r'^ *(?:#\[[^\n]*?\] *)*pub(?:\([^)\n]*\))? (?:[\w"]+ )*?fn (\w+)(.*?)(?:\n\s*\{$| \{$| \{\}$)', re.M | re.S)
 # Records of equations that give the result and every byte of each lent buffer. Each has a law that no second answer satisfies it.
-RECORDS = ["Put", "Turned", "Ran", "Replayed", "Written", "PoweredOn", "EventDone"]
+RECORDS = ["Put", "Turned", "Ran", "Replayed", "Written", "PoweredOn", "EventDone", "FedBy", "OpenDone", "FeedDone"]
 # What makes a statement hold of more than one answer.
 LOOSENS = re.compile("[→⊎∨]")
 
@@ -301,8 +301,8 @@ def places(crate, name):
 # What the gate may spend on edits. An edit costs its crate's own check: one of a crate without functions, some four seconds, is counted as 1.
 # A request of document 02 brings at most five edits of definitions and two of code.
 WEIGHTS = {
-    "rules": 1, "text_rules": 1, "replay_rules": 1, "console_rules": 1, "saved_rules": 1, "power": 1, "judge": 1, "values": 2, "channel": 2, "events": 2, "registers": 3,
-    "show": 3, "console": 3, "saved": 3, "dlaveth": 3, "chip": 6, "replay": 5, "text": 7, "change": 8, "parts": 9,
+    "rules": 1, "text_rules": 1, "replay_rules": 1, "console_rules": 1, "saved_rules": 1, "session_rules": 6, "power": 1, "judge": 1, "values": 2, "channel": 2, "events": 2, "registers": 3,
+    "show": 3, "console": 3, "saved": 3, "dlaveth": 9, "session": 14, "chip": 6, "replay": 5, "text": 7, "change": 8, "parts": 9,
 }
 BUDGET, REQUEST = 250, 17
 
@@ -313,7 +313,7 @@ def spent(edits):
 
 
 def budget():
-    check("the weight of edits is counted", differs([spent(["rules", "chip", "none"])], [16]))
+    check("the weight of edits is counted", differs([spent(["rules", "chip", "none"])], [21]))
     crates = [path.parts[-3] for path in ROOT.glob("crates/*/must-fail/*.edit")]
     most = BUDGET + REQUEST * len(list(ROOT.glob("docs/landings/*.md")))
     check(f"{len(crates)} must-fail edits weigh {spent(crates)}: at most {most}", [] if spent(crates) <= most else ["they weigh more"])

@@ -1,33 +1,52 @@
 /*
- * answer [--address 76|77] [-o FILE] [TRACE]: the answers to a whole trace, as the library writes them, or one message and nothing else.
+ * answer [--address 76|77] [-o FILE] [TRACE]: the answers to a trace as it arrives, as the library writes them, and one message where it
+ * stops before the end.
  *
- * The library answers a trace in one call and says nothing meanwhile. So where standard error is a terminal, a timer's signal looks how far
- * the output is filled: it is zero before, no answer has a zero byte, and the answers come one behind the other.
+ * What is there of the trace is read, fed to a session, and answered before the next read, so that a record is answered when its last byte
+ * has come, and a trace of any length takes the same memory.
  */
-#define _XOPEN_SOURCE 700    /* realpath, mkstemp, setitimer */
+#define _XOPEN_SOURCE 700    /* poll, clock_gettime */
 #include "dlaveth.h"
 #include "names.h"
 
 #include <errno.h>
 #include <fcntl.h>
 #include <getopt.h>
+#include <poll.h>
 #include <signal.h>
 #include <stdarg.h>
 #include <stdio.h>
 #include <stdlib.h>
 #include <string.h>
 #include <sys/stat.h>
-#include <sys/time.h>
+#include <time.h>
 #include <unistd.h>
 
 enum { FAILED = 1, MISCALLED = 2, LINES = 4, SHOWN_BYTES = 40 };
+enum { CARRIED_BYTES = 38, PORTION_BYTES = 65536, LOOKED_AT_BYTES = 128 };    /* the last: more than a record and what is shown of a line */
 
 static const char *const line_names[LINES] = {RECORD_LINES};
-static uint8_t trace[DLAVETH_MOST_BYTES + 1];    /* one more, to see that a trace is too long */
+
+/* ---- what is said */
+
+static struct {
+    int on, told;
+    size_t length;           /* of the trace; 0 where nobody knows, as of a pipe */
+    size_t records, used;    /* answered */
+    long long due;           /* milliseconds */
+} now;
+
+static void wipe(void)
+{
+    if (now.told)
+        fputs("\r\033[K", stderr);
+    now.told = 0;
+}
 
 static int fail(const char *form, ...)
 {
     va_list rest;
+    wipe();
     va_start(rest, form);
     vfprintf(stderr, form, rest);
     va_end(rest);
@@ -35,42 +54,42 @@ static int fail(const char *form, ...)
     return FAILED;
 }
 
-/* ---- how far it is */
-
-static struct {
-    const volatile uint8_t *output;
-    size_t room, filled, length, used;
-} now;
-static volatile sig_atomic_t told;
-
-/* An answer has as many lines as its record, so each line of the output is a line of the trace. A handler may not use stdio. */
-static void tell(int number)
+static long long milliseconds(void)
 {
-    static char text[] = "\r  0 % of the trace is answered";
-    int kept = errno;
-    (void)number;
-    while (now.filled < now.room && now.output[now.filled] != 0)
-        if (now.output[now.filled++] == '\n')
-            while (now.used < now.length && trace[now.used++] != '\n')
-                continue;
-    size_t percent = now.used * 100 / now.length;
-    text[1] = percent < 100 ? ' ' : '1';
-    text[2] = percent < 10 ? ' ' : (char)('0' + percent / 10 % 10);
-    text[3] = (char)('0' + percent % 10);
-    told = write(STDERR_FILENO, text, sizeof text - 1) > 0;
-    errno = kept;
+    struct timespec time;
+    clock_gettime(CLOCK_MONOTONIC, &time);
+    return time.tv_sec * 1000LL + time.tv_nsec / 1000000;
 }
 
-/* Only a replay that lasts is told of: the first look comes after 0.3 seconds. */
-static void tell_on(void)
+/* Only a replay that lasts is told of. Where answers go to a terminal, they are what tells. */
+static void tell_on(int answers, const struct stat *trace, size_t behind)
 {
-    struct itimerval times = {.it_value = {0, 300000}, .it_interval = {0, 150000}};
-    struct sigaction action = {.sa_handler = tell, .sa_flags = SA_RESTART};
-    sigaction(SIGALRM, &action, NULL);
-    setitimer(ITIMER_REAL, &times, NULL);
+    now.on = isatty(STDERR_FILENO) && !isatty(answers);
+    if (S_ISREG(trace->st_mode) && (size_t)trace->st_size > behind)
+        now.length = (size_t)trace->st_size - behind;
+    if (now.length > DLAVETH_MOST_BYTES)
+        now.length = DLAVETH_MOST_BYTES;
+    now.due = milliseconds() + 300;
 }
 
-/* ---- why there are no answers */
+/* Tells how far it is where that is due before more of the trace is there; a wait that follows is then told of as it stands. */
+static void tell(int trace)
+{
+    struct pollfd there = {.fd = trace, .events = POLLIN};
+    long long left = now.due - milliseconds();
+    size_t percent = now.length > 0 ? now.used * 100 / now.length : 0;
+
+    if (!now.on || (left > 0 && poll(&there, 1, (int)left) != 0))
+        return;
+    if (now.length > 0)
+        fprintf(stderr, "\r%3zu %% of the trace is answered", percent < 100 ? percent : 100);    /* a file may have grown */
+    else
+        fprintf(stderr, "\rrecords answered: %zu", now.records);
+    now.told = 1;
+    now.due = milliseconds() + 150;
+}
+
+/* ---- why it stops */
 
 /* Whether a line without its end is what stands in a record. The library judges; this only finds what to show. */
 static int is_line(const uint8_t *line, size_t length, const char *name)
@@ -88,8 +107,8 @@ static int is_line(const uint8_t *line, size_t length, const char *name)
     return at == length;
 }
 
-/* The start of a line, with no byte in it that a terminal would obey. */
-static const char *quoted(const uint8_t *line, size_t length)
+/* The start of a line, with no byte in it that a terminal would obey; open where more of it is to come. */
+static const char *quoted(const uint8_t *line, size_t length, int open)
 {
     static char text[4 * SHOWN_BYTES + 8];
     char *end = text;
@@ -99,40 +118,62 @@ static const char *quoted(const uint8_t *line, size_t length)
             end += sprintf(end, "\\x%02x", (unsigned)line[i]);
         else
             *end++ = (char)line[i];
-    strcpy(end, length > SHOWN_BYTES ? "'.." : "'");
+    strcpy(end, open || length > SHOWN_BYTES ? "'.." : "'");
     return text;
 }
 
-static int malformed(const char *name, size_t length, size_t at, size_t records)
+/* Of the record behind those that are answered; ended where the trace ends with these bytes. */
+static int malformed(const char *name, const uint8_t *rest, size_t length, int ended)
 {
-    size_t line = LINES * records + 1;
-    fprintf(stderr, "%s:%zu: no record begins here (record %zu, behind %zu bytes): ", name, line, records + 1, at);
+    size_t line = LINES * now.records + 1;
+    wipe();
+    fprintf(stderr, "%s:%zu: no record begins here (record %zu, behind %zu bytes): ", name, line, now.records + 1, now.used);
     for (int i = 0; i < LINES; i++, line++) {
-        const uint8_t *from = trace + at, *end = memchr(from, '\n', length - at);
-        size_t bytes = end ? (size_t)(end - from) : length - at, named = strlen(line_names[i]);
-        const char *last = end ? "" : ", the last,";
-        if (at == length)
+        const uint8_t *end = memchr(rest, '\n', length);
+        size_t bytes = end ? (size_t)(end - rest) : length, named = strlen(line_names[i]);
+        const char *last = !end && ended ? ", the last," : "", *shown = quoted(rest, bytes, !end && !ended);
+        if (length == 0)
             return fail("the trace ends where line %zu, %sNUMBER, is wanted", line, line_names[i]);
-        if (bytes > 0 && from[bytes - 1] == '\r' && is_line(from, bytes - 1, line_names[i]))
+        if (bytes > 0 && rest[bytes - 1] == '\r' && is_line(rest, bytes - 1, line_names[i]))
             return fail("line %zu ends with byte 13 (carriage return), and byte 10 alone must end a line", line);
-        if (!is_line(from, bytes, line_names[i]))
-            return fail("line %zu%s is %s, and %sNUMBER is wanted%s", line, last, quoted(from, bytes), line_names[i],
-                        bytes < named || memcmp(from, line_names[i], named) != 0 ? ""
+        if (!is_line(rest, bytes, line_names[i]))
+            return fail("line %zu%s is %s, and %sNUMBER is wanted%s", line, last, shown, line_names[i],
+                        bytes < named || memcmp(rest, line_names[i], named) != 0 ? ""
                         : ": 1 to 5 digits, a minus before them where negative, no plus, no leading zero, no -0, no space");
         if (!end)
-            return fail("line %zu%s is %s, and no byte 10 ends it", line, last, quoted(from, bytes));
-        at += bytes + 1;
+            return fail("line %zu%s is %s, and no byte 10 ends it", line, last, shown);
+        rest += bytes + 1;
+        length -= bytes + 1;
     }
     return fail("the library refuses it");
 }
 
 /* ---- files */
 
+/* Whether a read or write that failed is tried again: a signal came, or who shares the file made it one that does not wait. */
+static int again(int file, short events)
+{
+    struct pollfd there = {.fd = file, .events = events};
+    if (errno == EAGAIN)
+        return poll(&there, 1, -1) >= 0 || errno == EINTR;
+    return errno == EINTR;
+}
+
+/* What is there, and a wait where nothing is; 0 at the end. */
+static ssize_t get(int file, uint8_t *to, size_t most)
+{
+    ssize_t got;
+    do
+        got = read(file, to, most);
+    while (got < 0 && again(file, POLLIN));
+    return got;
+}
+
 static int put(int file, const uint8_t *data, size_t length)
 {
     while (length > 0) {
         ssize_t done = write(file, data, length);
-        if (done < 0 && errno != EINTR)
+        if (done < 0 && !again(file, POLLOUT))
             return -1;
         if (done > 0) {
             data += done;
@@ -142,40 +183,80 @@ static int put(int file, const uint8_t *data, size_t length)
     return 0;
 }
 
-/* Writes a file whole or not at all: aside in its folder, then moved in. */
-static int save(const char *path, const struct stat *read_from, const uint8_t *data, size_t length)
+/* A file for the answers, emptied; -1 with a message where there is none. Not the trace, which would be lost before it is read. */
+static int emptied(const char *path, const struct stat *trace)
 {
-    char *real = realpath(path, NULL);    /* a link stays, and what it leads to is replaced */
-    const char *target = real ? real : path, *slash = strrchr(target, '/');
-    int folder = slash ? (int)(slash - target) + 1 : 0;
-    char *part = malloc((size_t)folder + sizeof ".answer.XXXXXX");
     struct stat there;
-    mode_t mask = umask(0), mode = 0666 & ~mask;
-    sigset_t all;
+    int file = -1, old = stat(path, &there) == 0;
 
-    umask(mask);
-    if (!part)
-        return fail("no memory");
-    if (stat(target, &there) == 0) {
-        if (!S_ISREG(there.st_mode))
-            return fail("%s: not a plain file", path);
-        if (there.st_dev == read_from->st_dev && there.st_ino == read_from->st_ino)
-            return fail("%s: this is the trace itself", path);
-        mode = there.st_mode & 0777;
+    if (old && !S_ISREG(there.st_mode))
+        fail("%s: not a plain file", path);
+    else if (old && there.st_dev == trace->st_dev && there.st_ino == trace->st_ino)
+        fail("%s: this is the trace itself", path);
+    else if ((file = open(path, O_WRONLY | O_CREAT | O_TRUNC, 0666)) < 0)
+        fail("%s: %s", path, strerror(errno));
+    return file;
+}
+
+/* ---- the trace as it arrives */
+
+static size_t number(const uint8_t *bytes)
+{
+    return (size_t)bytes[0] | (size_t)bytes[1] << 8 | (size_t)bytes[2] << 16 | (size_t)bytes[3] << 24;
+}
+
+/* To show the record that stopped it, what has come behind these bytes is read too; nothing is waited for. */
+static int stopped(const char *name, int file, uint8_t *rest, size_t length, int ended)
+{
+    struct pollfd there = {.fd = file, .events = POLLIN};
+    ssize_t more;
+    while (!ended && length < LOOKED_AT_BYTES && poll(&there, 1, 0) > 0
+           && (more = get(file, rest + length, LOOKED_AT_BYTES - length)) >= 0) {
+        length += (size_t)more;
+        ended = more == 0;
     }
-    sprintf(part, "%.*s.answer.XXXXXX", folder, target);
-    sigfillset(&all);
-    sigprocmask(SIG_BLOCK, &all, NULL);    /* nothing but the end of this function ends the program now, so that no part is left */
-    int file = mkstemp(part);
-    if (file < 0)
-        return fail("%s: %s", path, strerror(errno));
-    if (put(file, data, length) != 0 || fchmod(file, mode) != 0 || close(file) != 0 || rename(part, target) != 0) {
-        int why = errno;
-        unlink(part);
-        return fail("%s: %s", path, strerror(why));
+    return malformed(name, rest, length, ended);
+}
+
+static int answer(int32_t address, const char *name, int file, const char *out, int answers)
+{
+    static uint8_t text[CARRIED_BYTES + PORTION_BYTES + LOOKED_AT_BYTES];    /* from the record on that is not answered yet */
+    static uint8_t output[PORTION_BYTES];
+    uint8_t session[DLAVETH_SESSION_BYTES], report[DLAVETH_REPORT_BYTES] = {0};
+    size_t carried = 0, over = 0;    /* over: a byte too many was read */
+    int32_t code = dlaveth_open(address, session, sizeof session);
+    int ended = 0;
+
+    while (code == DLAVETH_DONE && !ended && !over) {
+        const size_t from = now.used, left = DLAVETH_MOST_BYTES - from - carried;    /* from: where text begins in the trace */
+        tell(file);
+        ssize_t more = get(file, text + carried, left < PORTION_BYTES ? left + 1 : PORTION_BYTES);
+        if (more < 0)
+            return fail("%s: %s", name, strerror(errno));
+        ended = more == 0;
+        over = (size_t)more > left;
+        size_t at = carried, length = carried + (size_t)more - over;
+        do {
+            uint8_t progress[DLAVETH_PROGRESS_BYTES] = {0};    /* a refusal leaves it so */
+            code = dlaveth_feed(session, sizeof session, text + at, length - at, ended, output, sizeof output, report, sizeof report,
+                                progress, sizeof progress);
+            if (put(answers, output, number(progress + 4)) != 0)
+                return fail("%s: %s", out, strerror(errno));
+            now.records = number(report + 4);
+            now.used = number(report + 8);
+            at += number(progress);
+        } while (code == DLAVETH_NO_ROOM);
+        carried = length - (now.used - from);
+        memmove(text, text + (now.used - from), carried + over);
     }
-    free(part);
-    free(real);
+    if (code == DLAVETH_MALFORMED)
+        return stopped(name, file, text, carried + over, ended);
+    if (code != DLAVETH_DONE)
+        return fail("%s: the library refuses it with code %d", name, (int)code);
+    if (over)
+        return fail("%s: too long, a trace has at most %d bytes (16 MiB): its first %zu records are answered", name, DLAVETH_MOST_BYTES,
+                    now.records);
+    wipe();
     return 0;
 }
 
@@ -185,10 +266,9 @@ int main(int count, char **words)
 {
     static const struct option options[] = {{"address", required_argument, NULL, 'a'}, {NULL, 0, NULL, 0}};
     static char called[] = "tools/answer.sh";
-    const char *address = "76", *name = "standard input", *out = NULL;
-    uint8_t report[DLAVETH_REPORT_BYTES];
-    struct stat read_from;
-    int file = STDIN_FILENO, option;
+    const char *address = "76", *name = "standard input", *out = "-";
+    struct stat trace;
+    int file = STDIN_FILENO, answers = STDOUT_FILENO, option;
 
     words[0] = called;    /* for getopt's messages */
     while ((option = getopt_long(count, words, "o:", options, NULL)) != -1) {
@@ -214,46 +294,18 @@ int main(int count, char **words)
         name = words[optind];
         file = open(name, O_RDONLY);
     }
-    if (file < 0 || fstat(file, &read_from) != 0)
+    if (file < 0 || fstat(file, &trace) != 0)
         return fail("%s: %s", name, strerror(errno));
-    size_t length = 0;
-    for (ssize_t more; (more = read(file, trace + length, sizeof trace - length)) != 0;) {
-        if (more < 0)
-            return fail("%s: %s", name, strerror(errno));
-        length += (size_t)more;
-    }
-    if (length > DLAVETH_MOST_BYTES)
-        return fail("%s: too long, a trace has at most %d bytes (16 MiB)", name, DLAVETH_MOST_BYTES);
-
-    size_t room = length / DLAVETH_RECORD_BYTES * DLAVETH_ANSWER_BYTES;
-    if (room > DLAVETH_MOST_BYTES)
-        room = DLAVETH_MOST_BYTES;
-    uint8_t *output = calloc(room + 1, 1);
-    if (!output)
-        return fail("no memory");
-    now.output = output;
-    now.room = room;
-    now.length = length;
-    if (length > 0 && isatty(STDERR_FILENO))
-        tell_on();
-    int32_t code = replay(atoi(address), trace, length, output, room, report, sizeof report);
-    signal(SIGALRM, SIG_IGN);
-    if (told)
-        fputs("\r\033[K", stderr);
-
-    if (code != DLAVETH_DONE && code != DLAVETH_MALFORMED && code != DLAVETH_NO_ROOM)
-        return fail("%s: the library refuses it with code %d", name, (int)code);
-    size_t numbers[4];    /* code, records, bytes of the trace, bytes of the answers */
-    for (int i = 0; i < 4; i++)
-        numbers[i] = (size_t)report[4 * i] | (size_t)report[4 * i + 1] << 8 | (size_t)report[4 * i + 2] << 16 | (size_t)report[4 * i + 3] << 24;
-    if (code == DLAVETH_MALFORMED)
-        return malformed(name, length, numbers[2], numbers[1]);
-    if (code == DLAVETH_NO_ROOM)
-        return fail("%s:%zu: no room for the answer to this record (record %zu, behind %zu bytes): the answers together have at most %zu bytes (16 MiB)", name,
-                    LINES * numbers[1] + 1, numbers[1] + 1, numbers[2], room);
-    if (out && strcmp(out, "-") != 0)
-        return save(out, &read_from, output, numbers[3]);
-    if (put(STDOUT_FILENO, output, numbers[3]) != 0)
-        return errno == EPIPE ? FAILED : fail("standard output: %s", strerror(errno));    /* a reader that stops early is no error of ours */
-    return 0;
+    if (S_ISDIR(trace.st_mode))
+        return fail("%s: %s", name, strerror(EISDIR));
+    if (strcmp(out, "-") == 0)
+        out = "standard output";
+    else if ((answers = emptied(out, &trace)) < 0)
+        return FAILED;
+    off_t behind = lseek(file, 0, SEEK_CUR);    /* standard input may have been read in part */
+    tell_on(answers, &trace, behind > 0 ? (size_t)behind : 0);
+    int failed = answer(atoi(address), name, file, out, answers);
+    if (!failed && answers != STDOUT_FILENO && close(answers) != 0)
+        return fail("%s: %s", out, strerror(errno));
+    return failed;
 }

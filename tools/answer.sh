@@ -7,14 +7,17 @@ for word; do
         cat <<'END'
 usage: tools/answer.sh [--address 76|77] [-o FILE] [TRACE]
 
-Replays a trace of up to 16 MiB on a chip that was just powered on, and writes the answers.
+Replays a trace on a chip that was just powered on, and writes the answers as its records arrive.
 
-  TRACE            the records; - or none is standard input
+  TRACE            the records; - or none is standard input, which may be a pipe that is still written to
   --address 76|77  the chip's bus address, 76 where none is given
-  -o FILE          where the answers go, instead of standard output; written whole or not at all
+  -o FILE          where the answers go, instead of standard output; emptied first
 
-A record that is malformed or has no room for its answer, or a file that cannot be read or written: one message with the place, exit
-code 1, and no answers. On a terminal a replay that lasts shows how far it is. tools/show.py shows records and answers in words.
+Each answer is written as soon as its record is there, to a FILE too, and stays written whatever follows. The end of TRACE is its end, so
+a file that still grows goes through a pipe: tail -n +1 -f TRACE | tools/answer.sh. A record that is malformed or cut short by the end, a
+trace of more than 16 MiB, whose first 16 MiB are answered, or a file that cannot be read or written: one message with the place, and exit
+code 1. On a terminal a replay that lasts shows how far it is, where the answers go elsewhere. tools/show.py shows records and answers in
+words.
 END
         exit
     fi

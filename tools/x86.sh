@@ -18,6 +18,7 @@ fi
 
 x86_library=target/staticlib/libdlaveth.a
 if [[ ! -e $x86_library || -n $(find crates crates.txt -newer "$x86_library" -print -quit) ]]; then
+    command -v rt >/dev/null || { echo "the library is missing or older than crates, and rt, which proves and builds it, is not on the PATH" >&2; exit 1; }
     mkdir -p target
     if [[ -t 2 ]]; then
         echo "proving and building the library: some three minutes at the first run" >&2

@@ -37,6 +37,11 @@ void compare_name(const char *format, ...)
     __sanitizer_set_death_callback(show_name);
 }
 
+const char *compare_case(void)
+{
+    return name;
+}
+
 size_t compare_first(const uint8_t *x, const uint8_t *y, size_t len)
 {
     size_t at = 0;

@@ -7,6 +7,7 @@
 
 /* Names the case at hand, as printf does: what goes wrong from here on, a sanitizer's finding too, is shown with the name. */
 void compare_name(const char *format, ...);
+const char *compare_case(void);
 
 /*
  * Has both models called, holds the answers of each to the claims on alarms (alarms.h), and compares return value,

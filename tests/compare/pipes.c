@@ -57,14 +57,16 @@ pipes *pipes_start(char *const command[])
     return model;
 }
 
-static void send_bytes(pipes *model, const void *bytes, size_t len)
+void pipes_send(pipes *model, const void *bytes, size_t len)
 {
     if (fwrite(bytes, 1, len, model->to) != len)
         fail("takes no more");
 }
 
-static void receive_bytes(pipes *model, void *bytes, size_t len)
+void pipes_receive(pipes *model, void *bytes, size_t len)
 {
+    if (fflush(model->to) != 0)
+        fail("takes no more");
     if (fread(bytes, 1, len, model->from) != len)
         fail("broke off its answer");
 }
@@ -72,16 +74,14 @@ static void receive_bytes(pipes *model, void *bytes, size_t len)
 call_result pipes_call(pipes *model, const call_input *in)
 {
     wire_request request = {in->trace_len, in->output_len, in->report_len, in->fill, in->address};
-    send_bytes(model, &request, sizeof request);
-    send_bytes(model, in->trace, in->trace_len);
-    if (fflush(model->to) != 0)
-        fail("takes no more");
+    pipes_send(model, &request, sizeof request);
+    pipes_send(model, in->trace, in->trace_len);
 
     wire_answer answer;
-    receive_bytes(model, &answer, sizeof answer);
+    pipes_receive(model, &answer, sizeof answer);
     call_result result = {answer.code, answer.spoilt, call_room(in->output_len), call_room(in->report_len)};
-    receive_bytes(model, result.output, in->output_len);
-    receive_bytes(model, result.report, in->report_len);
+    pipes_receive(model, result.output, in->output_len);
+    pipes_receive(model, result.report, in->report_len);
     return result;
 }
 

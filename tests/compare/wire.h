@@ -18,4 +18,10 @@ typedef struct {
     uint32_t spoilt;
 } wire_answer;
 
+/* A call of a session: a wire_feed, the session and the portion; its answer is a wire_answer, then session, report, progress and the whole output. */
+typedef struct {
+    uint64_t portion_len, room, fill;
+    int64_t end;
+} wire_feed;
+
 #endif

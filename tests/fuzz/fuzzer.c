@@ -1,6 +1,7 @@
 /* fuzzer.c - what libFuzzer calls. MODEL is the command that starts the model's program, its words as C strings. */
 #define _POSIX_C_SOURCE 200809L
 #include "compare.h"
+#include "events.h"
 #include "input.h"
 #include "random.h"
 
@@ -49,14 +50,14 @@ int LLVMFuzzerTestOneInput(const uint8_t *bytes, size_t len)
 /* Inserts, repeats, removes or changes one event; the others stay whole. */
 static size_t mutate_event(uint8_t *bytes, size_t len, size_t most, randoms *random)
 {
-    const size_t event = INPUT_EVENT, count = (len - INPUT_HEAD) / event;
-    uint8_t *at = bytes + INPUT_HEAD + event * random_below(random, (uint32_t)count + 1);
+    const size_t event = EVENT_BYTES, count = (len - input_head) / event;
+    uint8_t *at = bytes + input_head + event * random_below(random, (uint32_t)count + 1);
     size_t rest = (size_t)(bytes + len - at);
     uint32_t choice = random_below(random, 4);
     if (choice < 2 && len + event <= most) {
         uint64_t fresh = random_next(random);
-        const uint8_t *old = bytes + INPUT_HEAD + event * random_below(random, (uint32_t)count);
-        uint8_t inserted[INPUT_EVENT];
+        const uint8_t *old = bytes + input_head + event * random_below(random, (uint32_t)count);
+        uint8_t inserted[EVENT_BYTES];
         memcpy(inserted, choice == 0 || count == 0 ? (const void *)&fresh : old, event);
         memmove(at + event, at, rest);
         memcpy(at, inserted, event);
@@ -76,13 +77,13 @@ size_t LLVMFuzzerCustomMutator(uint8_t *bytes, size_t len, size_t most, unsigned
 {
     randoms random = {seed};
     uint32_t choice = random_below(&random, 100);
-    if (len >= INPUT_HEAD && choice < 5)
-        bytes[random_below(&random, INPUT_HEAD)] = (uint8_t)random_next(&random);
-    else if (len >= INPUT_HEAD && choice < 60 && input_is_events(bytes, len))
+    if (len >= input_head && choice < 5)
+        bytes[random_below(&random, (uint32_t)input_head)] = (uint8_t)random_next(&random);
+    else if (len >= input_head && choice < 60 && input_is_events(bytes, len))
         len = mutate_event(bytes, len, most, &random);
     else
         len = LLVMFuzzerMutate(bytes, len, most);
     if (input_is_huge(bytes, len) && random_below(&random, 1000) != 0)
-        bytes[1] = 0;       /* each takes as long as a thousand others */
+        input_shrink(bytes);
     return len;
 }

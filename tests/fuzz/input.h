@@ -1,4 +1,4 @@
-/* input.h - a fuzzer's input: bytes that stand for one call of replay. */
+/* input.h - a fuzzer's input: bytes that stand for one call of replay (input.c), or for a session (portions.c). */
 #ifndef INPUT_H
 #define INPUT_H
 
@@ -7,20 +7,18 @@
 #include <stdbool.h>
 
 /*
- * An input begins with a head; a byte of it that is missing is 0.
- *   0   bit 0: what follows, 0 the trace as it is, 1 events; bits 4..1: the address
- *   1   the room of the output, beside what the answers take; INPUT_HUGE for 16 MiB, or one byte more
- *   2   a number for the room
- *   3   bits 7..4: the report's length; bits 3..0: what the buffers hold before the call
- * An event is four bytes, and becomes a record that is aimed at the chip's registers and limits; see input.c. Up to three bytes behind the
- * last one stand at the end of the trace as they are.
+ * An input begins with a head of so many bytes, which its file has; a byte of it that is missing is 0. Behind it stands the trace as it is, or
+ * events of four bytes, each of which becomes a record (events.h).
  */
-enum { INPUT_HEAD = 4, INPUT_EVENT = 4, INPUT_HUGE = 255 };
+extern const size_t input_head;
 
 bool input_is_events(const uint8_t *bytes, size_t len);
-bool input_is_huge(const uint8_t *bytes, size_t len);
 
-/* Has both models called with what the input stands for; does not return if compare_both finds anything. */
+/* Whether the input stands for an output of 16 MiB, which takes as long as a thousand others; input_shrink makes it another. */
+bool input_is_huge(const uint8_t *bytes, size_t len);
+void input_shrink(uint8_t *bytes);
+
+/* Has both models called with what the input stands for; does not return if anything is different. */
 void input_try(pipes *model, const uint8_t *bytes, size_t len);
 
 #endif

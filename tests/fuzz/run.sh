@@ -1,5 +1,6 @@
 #!/usr/bin/env bash
-# Replays what a fuzzer makes in both models and compares every byte; docs/FUZZING.md explains it.
+# Replays what a fuzzer makes in both models and compares every byte; docs/FUZZING.md explains it. With --portions first, each of these feeds a
+# session call by call instead, from a corpus of its own.
 #   tests/fuzz/run.sh                         each input of the corpus once: the gate's run
 #   tests/fuzz/run.sh FILE..                  these inputs, each once
 #   tests/fuzz/run.sh --coverage [FILE..]     the same, and how much of the second model they reach; each place in target/fuzz/coverage
@@ -8,13 +9,26 @@
 set -euo pipefail
 cd "$(dirname "$0")/../.."
 
-built=target/fuzz
 at=tests/fuzz
 warnings=(-std=c11 -Wall -Wextra -Wpedantic -Wconversion)
 sanitizers=(-g -O1 -fsanitize=address,undefined -fno-sanitize-recover=undefined)
-compared=(second/{second,second_replay}.c)
-others=("$at"/input.c tests/compare/{compare,alarms,call,pipes,trace}.c second/second_history.c)
+others=("$at"/events.c tests/compare/{compare,alarms,call,pipes,trace}.c second/second_history.c)
 
+if [[ ${1-} == --portions ]]; then
+    shift
+    built=target/fuzz_portions corpus=$at/portions_corpus
+    compared=(second/{second,second_replay,second_session}.c)
+    others+=("$at"/portions.c tests/session_{bytes,call,second}.c tests/chip_bytes.c)
+    modelled=("$at"/portions_model.c tests/session_call.c)
+    # two bytes at a time with room enough; then portions and rooms of every sort; the end with the last byte
+    heads=('\0\0\0\0\202\0\202\0\202\0\202\0\202\0\202\0' '\0\0\0\0\007\004\077\004\012\003\224\007\100\006\277\074')
+else
+    built=target/fuzz corpus=$at/corpus
+    compared=(second/{second,second_replay}.c)
+    others+=("$at"/input.c)
+    modelled=(tests/compare/model.c)
+    heads=('\0\0\0\0')    # address 76 and room enough
+fi
 minutes=0 keep=false coverage=false files=()
 while (($#)); do
     case $1 in
@@ -29,11 +43,11 @@ done
 
 . tools/x86.sh
 mkdir -p "$built"
-"${x86_cc[@]}" "${warnings[@]}" -O2 -o "$built/model" tests/compare/{model,call}.c "$x86_library"
+"${x86_cc[@]}" "${warnings[@]}" -O2 -Itests -Itests/compare -o "$built/model" "${modelled[@]}" tests/compare/call.c "$x86_library"
 printf -v words '"%s", ' "${x86_run[@]}" "$built/model"
-flags=("${warnings[@]}" "${sanitizers[@]}" -Isecond -Itests/compare "-DMODEL=${words%, }")
+flags=("${warnings[@]}" "${sanitizers[@]}" -Iinclude -Isecond -Itests -Itests/compare "-DMODEL=${words%, }")
 
-((${#files[@]})) || files=("$at"/corpus/*)
+((${#files[@]})) || files=("$corpus"/*)
 if ((minutes == 0)) && ! $coverage; then
     gcc "${flags[@]}" -o "$built/files" "$at/files.c" "${others[@]}" "${compared[@]}"
     exec "$built/files" "${files[@]}"
@@ -60,20 +74,22 @@ for file in "${compared[@]}"; do compile "$file" -O0 -fsanitize=fuzzer-no-link; 
 for file in "$at/fuzzer.c" "${others[@]}"; do compile "$file"; done
 clang "${sanitizers[@]}" -fsanitize=fuzzer -o "$built/fuzzer" "${objects[@]}"
 
-# Beside the corpus: the recorded traces behind a head of zeros, which is address 76 and room enough; and an output as long as may be, and longer.
+# Beside the corpus: the recorded traces behind each head; and, of a replay, an output as long as may be, and longer.
 most=1024
 scratch=$built/scratch found=$built/found log=$built/log
 rm -rf "$scratch" "$found"
-mkdir -p "$scratch" "$found" "$at/corpus"
-for file in tests/traces/*.trace; do
-    cat <(printf '\0\0\0\0') "$file" >"$scratch/$(basename "$file")"
+mkdir -p "$scratch" "$found" "$corpus"
+for i in "${!heads[@]}"; do
+    for file in tests/traces/*.trace; do
+        cat <(printf "${heads[i]}") "$file" >"$scratch/$i-$(basename "$file")"
+    done
 done
 printf '\0\377\0\0' >"$scratch/most"
 printf '\0\377\1\0' >"$scratch/more"
-before=$(find "$at/corpus" -type f | wc -l)
+before=$(find "$corpus" -type f | wc -l)
 bad=0
 "$built/fuzzer" -max_total_time=$((60 * minutes)) -max_len=$most -timeout=60 -dict="$at/words.dict" -print_final_stats=1 \
-    -artifact_prefix="$found/" "$scratch" "$at/corpus" >"$log" 2>&1 || bad=$?
+    -artifact_prefix="$found/" "$scratch" "$corpus" >"$log" 2>&1 || bad=$?
 input=$(find "$found" -type f | head -n 1)
 if ((bad != 0)) || [[ -n $input ]]; then
     tail -n 60 "$log"
@@ -83,12 +99,12 @@ fi
 if $keep; then
     rm -rf "$built/merged"
     mkdir "$built/merged"
-    "$built/fuzzer" -set_cover_merge=1 -use_counters=0 -max_len=$most "$built/merged" "$at/corpus" "$scratch" >"$built/merge.log" 2>&1
-    rm -rf "$at/corpus"
-    mv "$built/merged" "$at/corpus"
+    "$built/fuzzer" -set_cover_merge=1 -use_counters=0 -max_len=$most "$built/merged" "$corpus" "$scratch" >"$built/merge.log" 2>&1
+    rm -rf "$corpus"
+    mv "$built/merged" "$corpus"
 fi
 value() { sed -nE "s/$1/\1/p" "$log" | tail -n 1; }
 echo "executions   $(value '^stat::number_of_executed_units: *([0-9]+)'), $(value '^stat::average_exec_per_sec: *([0-9]+)') per second"
 echo "coverage     $(value '^#[0-9]+\s+DONE +cov: ([0-9]+).*') of $(value '.*Loaded 1 modules +\(([0-9]+).*') edges, $(value '^#[0-9]+\s+DONE.* ft: ([0-9]+).*') features"
-echo "corpus       $before before, $(find "$at/corpus" -type f | wc -l) now, of $(cat "$at"/corpus/* | wc -c) bytes; $(find "$scratch" -type f | wc -l) in $scratch"
+echo "corpus       $before before, $(find "$corpus" -type f | wc -l) now, of $(cat "$corpus"/* | wc -c) bytes; $(find "$scratch" -type f | wc -l) in $scratch"
 echo "nothing found"

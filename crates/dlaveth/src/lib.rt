@@ -1,4 +1,6 @@
 // What a C program calls: all of it, and nothing else. A chip is 128 bytes that the caller lends, and an event's answer is 8.
+mod portions;
+
 use chip::fresh;
 use chip::step;
 use rules::answer::Made;

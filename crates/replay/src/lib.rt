@@ -1,6 +1,6 @@
 // Document 01, Traces and their replay: the chip and the text joined.
 pub mod play;
-mod report;
+pub mod report;
 
 use play::play;
 use report::write_report;

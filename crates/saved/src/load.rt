@@ -8,13 +8,13 @@ ghost use lib.ListN.{getD};
 ghost use Rattle.saved_rules.specs.Layout.{channelFrom, isSet, stateAt};
 
 // Past the end a byte reads as 0.
-fn byte(b: &[u8], i: usize) -> u8
+pub fn byte(b: &[u8], i: usize) -> u8
     ensures { λ r. ⌜ r ≡ getD (now (b .entry)) i 0 ⌝ }
 {
     if i < b.len() { b[i] } else { 0 }
 }
 
-fn flag(b: &[u8], i: usize) -> bool
+pub fn flag(b: &[u8], i: usize) -> bool
     ensures { λ r. ⌜ r ≡ isSet (getD (now (b .entry)) i 0) ⌝ }
 {
     byte(b, i) == 1

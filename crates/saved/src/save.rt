@@ -72,7 +72,7 @@ fn front(s: State) -> [u8; 40]
 }
 
 // All bytes are compared, so that the compiler takes many at once.
-fn same(a: &[u8], b: &[u8]) -> bool
+pub fn same(a: &[u8], b: &[u8]) -> bool
     ensures { λ r. ⌜ r ≡ sameBytes (now (a .entry)) (now (b .entry)) ⌝ }
 {
     if a.len() != b.len() {

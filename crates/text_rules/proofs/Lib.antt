@@ -11,6 +11,7 @@ pub mod Unique
 -- What is claimed of it.
 pub mod AnswerText
 pub mod Begins
+pub mod Bounded
 pub mod Completed
 pub mod Filled
 pub mod Plain

@@ -31,6 +31,15 @@ few-digits n = by (ltb n 10) (ltb n 100)
     by false true = omega arith
     by false false = omega arith
 
+pub some-digits : (n : ℕ) → 1 ≤ length (decimalOf n)
+unfolding decimalOf
+some-digits n = by (ltb n 10) (ltb n 100)
+  where
+    by : (t u : Bool) → 1 ≤ length (cond t (digit n ∷ []) (cond u (digit (n / 10) ∷ digit (n % 10) ∷ []) (digit (n / 100) ∷ digit (n / 10 % 10) ∷ digit (n % 10) ∷ [])))
+    by true u = omega arith
+    by false true = omega arith
+    by false false = omega arith
+
 pub line-length : (name : List ℕ) (n : ℕ) → length (lineText name n) ≡ length name + length (decimalOf n) + 1
 unfolding lineText
 line-length name n = simp length-append (omega arith)
@@ -59,3 +68,8 @@ answer-short code reply alert therm h =
 
 pub refusal-short : (code : ℕ) (alert therm : Bool) → code < 100 → length (answerText code 0 alert therm) ≤ 33
 refusal-short code alert therm h = omega (arith, answer-length code 0 alert therm, ap length (decimal-one 0 (omega arith)), few-digits code)
+
+-- and at least 31
+pub answer-long : (code reply : ℕ) (alert therm : Bool) → 31 ≤ length (answerText code reply alert therm)
+answer-long code reply alert therm =
+    omega (arith, answer-length code reply alert therm, some-digits code, some-digits reply)

@@ -11,4 +11,5 @@ pub mod Written
 pub mod RecordText
 pub mod AnswerText
 pub mod Completed
+pub mod Bounded
 pub mod PutCases
