@@ -12,7 +12,8 @@ ghost use mathlib.Core.Path.{_≡_};
 ghost use Rattle.rules.specs.PowerOn.{madeOf};
 ghost use Rattle.rules.specs.WellFormed.{wellFormed};
 ghost use Rattle.rules.specs.Lines.{alertLow};
-ghost use Rattle.rules.specs.Step.{stepOf};
+ghost use Rattle.rules.specs.Event.{checkOf};
+ghost use Rattle.rules.specs.Step.{checkedOf, refused, stepOf};
 
 // A state just after power-on, for address 76 or 77; code 2 for any other.
 pub fn fresh(address: i32) -> Made
@@ -26,10 +27,24 @@ pub fn step(s: State, e: Numbers) -> Answer
     ensures { λ r. ⌜ r ≡ stepOf s e ⌝ }
 {
     if judge::well_formed(s) {
-        event::checked(s, events::check(e))
+        step_well(s, e)
     } else {
-        answer::refused(6, s)
+        refuse_state(s)
     }
+}
+
+// One event on a state that is known to be well formed, as every state after it is: code 6 is not asked again.
+pub fn step_well(s: State, e: Numbers) -> Answer
+    ensures { λ r. ⌜ r ≡ checkedOf s (checkOf e) ⌝ }
+{
+    event::checked(s, events::check(e))
+}
+
+// Code 6, what a state that is not well formed is answered.
+pub fn refuse_state(s: State) -> Answer
+    ensures { λ r. ⌜ r ≡ refused 6 s ⌝ }
+{
+    answer::refused(6, s)
 }
 
 pub fn is_well_formed(s: State) -> bool

@@ -31,9 +31,9 @@ pub struct Limits {
     pub hysteresis: u16,
 }
 
+// The pointer stands last: beside the address the compiler would carry both as one number and take it apart at every event.
 pub struct State {
     pub address: u8,
-    pub pointer: u8,
     pub config: u8,
     pub rate: u8,
     pub hysteresis: u8,
@@ -69,4 +69,5 @@ pub struct State {
     pub remotediodefound: bool,
     pub remotediodeflag: bool,
     pub remotethermflag: bool,
+    pub pointer: u8,
 }
