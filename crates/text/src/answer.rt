@@ -4,8 +4,9 @@ ghost use mathlib.Core.Bool.{Bool};
 ghost use mathlib.Core.Path.{_≡_};
 ghost use Prim.Native.Nat.{_≤_};
 ghost use lib.ListN.{length};
-ghost use Rattle.text_rules.specs.Names.{endName};
-ghost use Rattle.text_rules.specs.Answer.{decimalOf, lineText, level, answerText, Front, Put};
+ghost use mathlib.Core.List.{[], _∷_, _++_};
+ghost use Rattle.text_rules.specs.Names.{alertName, codeName, endName, replyName, thermName};
+ghost use Rattle.text_rules.specs.Answer.{digit, decimalOf, lineText, level, answerText, Front, Put};
 
 // Bytes as they are.
 fn put_text(out: &mut [u8], text: &[u8]) -> usize
@@ -94,6 +95,83 @@ pub fn write_answer(out: &mut [u8], code: u8, reply: u8, alert: bool, therm: boo
         return Wrote::NoRoom;
     }
     Wrote::Bytes(put_answer(out, code, reply, alert, therm))
+}
+
+// The first line, and the name of the second.
+fn put_head(out: &mut [u8], code: u8) -> usize
+    requires { ⌜ 13 ≤ length (now out) ⌝ }
+    requires { ⌜ code ≤ 9 ⌝ }
+    ensures { λ r. ⌜ Front (lineText codeName code ++ replyName) (now (out .entry)) (now (out .exit)) r ⌝ }
+    ensures { λ r. ⌜ r ≡ 13 ⌝ }
+{
+    out[0] = 99;
+    out[1] = 111;
+    out[2] = 100;
+    out[3] = 101;
+    out[4] = 61;
+    out[5] = 48 + code;
+    out[6] = 10;
+    out[7] = 114;
+    out[8] = 101;
+    out[9] = 112;
+    out[10] = 108;
+    out[11] = 121;
+    out[12] = 61;
+    13
+}
+
+fn digit_of(high: bool) -> u8
+    ensures { λ r. ⌜ r ≡ digit (level high) ⌝ }
+{
+    if high { 49 } else { 48 }
+}
+
+// The second line's end, and the last two lines.
+fn put_tail(out: &mut [u8], alert: bool, therm: bool) -> usize
+    requires { ⌜ 17 ≤ length (now out) ⌝ }
+    ensures { λ r. ⌜ Front (((10 ∷ []) ++ lineText alertName (level alert)) ++ lineText thermName (level therm)) (now (out .entry)) (now (out .exit)) r ⌝ }
+{
+    out[0] = 10;
+    out[1] = 97;
+    out[2] = 108;
+    out[3] = 101;
+    out[4] = 114;
+    out[5] = 116;
+    out[6] = 61;
+    out[7] = digit_of(alert);
+    out[8] = 10;
+    out[9] = 116;
+    out[10] = 104;
+    out[11] = 101;
+    out[12] = 114;
+    out[13] = 109;
+    out[14] = 61;
+    out[15] = digit_of(therm);
+    out[16] = 10;
+    17
+}
+
+fn put_quickly(out: &mut [u8], code: u8, reply: u8, alert: bool, therm: bool) -> usize
+    requires { ⌜ 35 ≤ length (now out) ⌝ }
+    requires { ⌜ code ≤ 9 ⌝ }
+    ensures { λ r. ⌜ Front (answerText code reply alert therm) (now (out .entry)) (now (out .exit)) r ⌝ }
+{
+    let n = put_head(out, code);
+    let n = n + put_decimal(&mut out[n..], reply);
+    n + put_tail(&mut out[n..], alert, therm)
+}
+
+// Quickly: one test of the room for the longest answer, then stores at known places. Where that test fails, or the code has more than one
+// digit, the careful way asks for the exact room.
+pub fn write_quickly(out: &mut [u8], code: u8, reply: u8, alert: bool, therm: bool) -> Wrote
+    ensures { λ r. ⌜ Put (answerText code reply alert therm) (now (out .entry)) (now (out .exit)) r ⌝ }
+{
+    if 35 <= out.len() {
+        if code < 10 {
+            return Wrote::Bytes(put_quickly(out, code, reply, alert, therm));
+        }
+    }
+    write_answer(out, code, reply, alert, therm)
 }
 
 // The line that says how a run ended.

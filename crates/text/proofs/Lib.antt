@@ -1,0 +1,3 @@
+-- Laws of the quick reader: its numbers, its lines.
+pub mod QuickLines
+pub mod QuickNumbers
