@@ -2,7 +2,7 @@
 mod portions;
 
 use chip::fresh;
-use chip::step;
+use replay::play::event;
 use rules::answer::Made;
 use rules::event::Numbers;
 use saved::load::load;
@@ -79,7 +79,7 @@ pub extern "C" fn dlaveth_event(
         put_answer(answer, 6, 0, true, true);
         return 6;
     }
-    let done = step(s, Numbers { kind, a, b, c });
+    let done = event(s, Numbers { kind, a, b, c });
     let after = done.state;
     save(after, chip);
     put_answer(answer, done.code, done.reply, done.alert, done.therm);

@@ -1,5 +1,5 @@
 -- A play under way, and its ways on: one turn more, stopped, at the end. The loop's invariant is `Mid`. Assumes nothing.
-use Prim.Native.Nat.{ℕ, zero, suc, _+_, _*_, _-_, _≤_, _<_}
+use Prim.Native.Nat.{ℕ, zero, suc, _+_, _-_, _≤_, _<_}
 use native.Mathlib.Nat.{sub-add-eq, sub-zero}
 use native.Mathlib.Omega.{arith}
 use mathlib.Core.Path.{_≡_, refl, sym, _∙_}
@@ -10,12 +10,14 @@ use lib.ListN.{length, take, drop, length-drop, drop-of-length-le, take-append-d
 use lib.Seq.{drop-drop}
 use borrow.Author.Tests.{ne-eqb}
 use Rattle.rules.specs.declared.state.State.{State}
-use Rattle.text_rules.specs.Answer.{Front}
+use Rattle.text_rules.specs.declared.record.Record.{Record}
+use Rattle.text_rules.specs.declared.record.Parsed.the-variants.{Whole}
+use Rattle.text_rules.specs.Record.{recordOf}
 use Rattle.text_rules.proofs.Put.{front-length, front-none, front-then, rest}
 use Rattle.text_rules.proofs.Records.{record-fits}
 use Rattle.replay_rules.specs.declared.play.Turn.{Turn}
 use Rattle.replay_rules.specs.declared.play.Turn.the-variants.{Went, Stopped}
-use Rattle.replay_rules.specs.Play.{Ran, Run, Turned, addedOf, ended, runFrom, runOf, turnOf}
+use Rattle.replay_rules.specs.Play.{Mid, Ran, Run, Turned, addedOf, ended, runFrom, runOf, turnOf}
 use Rattle.replay_rules.proofs.Came.{Came, came-so}
 use Rattle.replay_rules.proofs.Came.Came.{On, Full, Bad}
 
@@ -35,18 +37,14 @@ idle : {s : State} {part : List ℕ} {room code : ℕ} {text : List ℕ} → Cam
 idle (Full r n read full) = refl
 idle (Bad all) = refl
 
--- under way: so many records, trace bytes and output bytes, and the text that stands at the output's front
-pub record Mid (s : State) (t x₀ x : List ℕ) (now : State) (n u w : ℕ) : Type 0 where
-  pub text : List ℕ
-  pub front : Front text x₀ x w
-  pub inside : u ≤ length t
-  pub few : 19 * n ≤ u
-  pub goes : runOf s t (length x₀) ≡ runFrom (length t - n) (record { code = 0; records = n; used = u; text = text; state = now }) (drop u t) (length x₀ - w)
-
 pub mid-start : (s : State) (t x : List ℕ) → Mid s t x x s 0 0 0
 unfolding runOf
 mid-start s t x =
     record { text = []; front = front-none; inside = omega arith; few = omega arith; goes = rw (sub-zero (length t), sub-zero (length x)) }
+
+-- the same by other names
+pub mid-as : {s s′ : State} {t x₀ x x′ : List ℕ} {now now′ : State} {n u w : ℕ} → Mid s t x₀ x now n u w → s ≡ s′ → x′ ≡ x → now′ ≡ now → Mid s′ t x₀ x′ now′ n u w
+mid-as m p q r = rw (← p, q, r) m
 
 -- "An empty rest is the end, code 0", however many turns are left
 at-end : (turns : ℕ) (p : Run) (room : ℕ) → runFrom turns p [] room ≡ ended p 0
@@ -60,6 +58,13 @@ from n l = take (length l - n) (drop n l)
 
 abbrev pub back : ℕ → List ℕ → List ℕ → List ℕ
 back n l part = take n l ++ (part ++ drop (length l - n) (drop n l))
+
+-- where a record stands the trace goes on
+pub record-left : (u : ℕ) (t : List ℕ) {r : Record} {n : ℕ} → recordOf (from u t) ≡ Whole r n → u < length t
+record-left u t {n} read =
+    let f = record-fits (from u t) read in
+    let h : n ≤ length (drop u t) = rw (rest u t) at (f .1) in
+    omega (arith, length-drop u t)
 
 module _ {s : State} {t x₀ x : List ℕ} {now : State} {n u w : ℕ} (m : Mid s t x₀ x now n u w) where
   room : length (from w x) ≡ length x₀ - w
@@ -111,3 +116,10 @@ module _ {s : State} {t x₀ x : List ℕ} {now : State} {n u w : ℕ} (m : Mid 
     pub mid-stop : {code : ℕ} → r ≡ Stopped code → Ran s t x₀ (back w x ys) (record { code = code; records = n; used = u; written = w; state = now })
     unfolding runFrom
     mid-stop e = reached (m .goes ∙ rw (fuel, more, said e)) (mid-same e)
+
+  -- no record stands there
+  pub mid-bad : u < length t → ((before : List ℕ) → Turned now (drop u t) before before (Stopped 7)) → Ran s t x₀ x (record { code = 7; records = n; used = u; written = w; state = now })
+  unfolding runFrom
+  mid-bad left bad =
+      let turn : Turned now (from u t) (from w x) (from w x) (Stopped 7) = rw (rest u t) (bad (from w x)) in
+      reached (m .goes ∙ rw (fuel left turn, more left turn, said left turn refl)) refl

@@ -1,5 +1,5 @@
 -- Records read, stepped and answered one after the other, up to the end or to what stops them. Assumes nothing.
-use Prim.Native.Nat.{ℕ, zero, suc, _+_, _-_}
+use Prim.Native.Nat.{ℕ, zero, suc, _+_, _*_, _-_, _≤_}
 use mathlib.Core.Path.{_≡_}
 use mathlib.Core.Bool.{cond}
 use mathlib.Core.List.{List, [], _++_}
@@ -13,7 +13,7 @@ use Rattle.text_rules.specs.declared.record.Record.{Record}
 use Rattle.text_rules.specs.declared.record.Parsed.{Parsed}
 use Rattle.text_rules.specs.declared.record.Parsed.the-variants.{Whole, Part, Malformed}
 use Rattle.text_rules.specs.Record.{parsedCode, recordOf}
-use Rattle.text_rules.specs.Answer.{answerText, put, wroteCode}
+use Rattle.text_rules.specs.Answer.{Front, answerText, put, wroteCode}
 use Rattle.text_rules.specs.declared.answer.Wrote.the-variants.{NoRoom}
 use Rattle.replay_rules.specs.declared.play.Played.{Played}
 use Rattle.replay_rules.specs.declared.play.Turn.{Turn}
@@ -95,6 +95,14 @@ begun s = record { code = 0; records = 0; used = 0; text = []; state = s }
 -- the whole trace, from a state, into so much room
 unfoldable pub runOf : State → List ℕ → ℕ → Run
 runOf s trace room = runFrom (length trace) (begun s) trace room
+
+-- under way: so many records, trace bytes and output bytes, and the text that stands at the output's front
+pub record Mid (s : State) (t x₀ x : List ℕ) (now : State) (n u w : ℕ) : Type 0 where
+  pub text : List ℕ
+  pub front : Front text x₀ x w
+  pub inside : u ≤ length t
+  pub few : 19 * n ≤ u
+  pub goes : runOf s t (length x₀) ≡ runFrom (length t - n) (record { code = 0; records = n; used = u; text = text; state = now }) (drop u t) (length x₀ - w)
 
 -- what a whole trace's play promises: each of its numbers, and every byte of the output
 pub record Ran (s : State) (trace before after : List ℕ) (r : Played) : Type 0 where

@@ -21,7 +21,7 @@ returns-2 c =
 returns-3 : tie.Need-returns-3
 returns-3 c =
     let s = c .before .before .before .before .before .before .before .before .before .before .before .before .before .before .before .before .before .before .before .fits in
-    let done = c .before .before .before .before .before .before .before .before .before .before .step in
+    let done = c .before .before .before .before .before .before .before .before .before .before .event in
     happened _ _ _ (c .before .before .before .before .before .before .before .before .before .before .before .before .before .before .before .before .if1 .left) (c .before .before .before .before .before .before .before .before .before .before .before .before .before .before .load .ensures) (c .before .before .before .before .before .before .before .before .before .before .before .before .holds .ensures) (not-false _ (c .before .before .before .before .before .before .before .before .before .before .before .if2 .left)) (rw (toZ-ofZ (s .kind), toZ-ofZ (s .a), toZ-ofZ (s .b), toZ-ofZ (s .c)) at (done .ensures)) (c .before .before .before .before .before .before .before .save .ensures) (c .before .before .before .put-answer2 .ensures) (toZ-pos w32 (done .result .code) (omega (arith, c .struct-known .given)))
 
 pub dlaveth-event-spec : {M : Type 1} → statement M

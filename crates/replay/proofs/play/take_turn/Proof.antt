@@ -1,35 +1,22 @@
--- `replay::play::take_turn` meets its contract: the laws of a turn, at what its three calls ensure. A record's numbers are read
--- back from their bits. Assumes nothing.
-use mathlib.Core.Path.{_≡_, refl, sym, _∙_}
-use mathlib.Core.List.{List}
-use Prim.Native.Nat.{ℕ}
+-- `replay::play::take_turn` meets its contract: the laws of a turn, at what its calls ensure. Assumes nothing.
+use mathlib.Core.Path.{_≡_, refl, sym, ap, _∙_}
 use borrow.Author.Needs.{needs}
-use Rattle.text_rules.specs.declared.record.Record.{Record}
+use Rattle.rules.specs.Step.{stepOf}
 use Rattle.text_rules.specs.declared.record.Parsed.the-variants.{Whole}
 use Rattle.text_rules.specs.Record.{recordOf}
-use Rattle.text_rules.proofs.Records.{Small, record-small}
-use Rattle.text_rules.proofs.Signed.{kept}
 use Rattle.replay_rules.specs.Play.{answerTo, textOf}
 use Rattle.replay_rules.proofs.Turns.{turn-bad, turn-full, turn-went}
 use Rattle.replay.proofs.play.take_turn.Statement.{statement}
 use Rattle.replay.proofs.play.take_turn.Tie as tie
 
--- the part of the trace, and the record that was read there
-abbrev part : tie.After-r → List ℕ
-part c = c .before .before .before .before .before .args .rest .now
+abbrev start : tie.After-r → tie.Start
+start c = c .before .before .before .before .before
 
-abbrev record-of : tie.After-r → Record
-record-of c = c .r .given .0 .0
-
-read : (c : tie.After-r) → recordOf (part c) ≡ Whole (record-of c) (c .r .given .0 .1 .0)
+read : (c : tie.After-r) → recordOf (start c .args .rest .now) ≡ Whole (c .r .given .0 .0) (c .r .given .0 .1 .0)
 read c = sym (c .before .before .read-record .ensures) ∙ c .r .given .1
 
-stepped : (c : tie.After-step) → c .step .result ≡ answerTo (c .before .before .before .before .before .before .before .before .args .s) (record-of (c .before .before .before))
-stepped c =
-    let at = c .before .before .before in
-    let r = record-of at in
-    let small : Small r = record-small (part at) (read at) in
-    rw (kept (r .kind) (small .kind), kept (r .a) (small .a), kept (r .b) (small .b), kept (r .c) (small .c)) at (c .step .ensures)
+stepped : (c : tie.After-event) → c .event .result ≡ answerTo (start (c .before .before .before) .args .s) (c .before .before .before .r .given .0 .0)
+stepped c = c .event .ensures ∙ ap (stepOf (start (c .before .before .before) .args .s)) (c .before .numbers-of .ensures)
 
 returns : tie.Need-returns
 returns c = turn-bad (c .before .read-record .ensures) (c .match .keys2) refl
@@ -50,11 +37,12 @@ pub take-turn-spec : {M : Type 1} → statement M
 take-turn-spec =
     tie.close
     (tie.spec
-    (λ c κs. search needs)
+    (λ c κs. tt)
     (λ c. search needs)
     returns
     (λ c κs. tt)
-    (λ c κs. search needs)
+    (λ c κs. tt)
+    (λ c κs. tt)
     (λ c. search needs)
     (λ c. search needs)
     (λ c. search needs)
