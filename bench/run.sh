@@ -138,7 +138,7 @@ while read -r trace longest sixteenth <&3; do
         echo "$trace, $who:"
         awk -f bench/addresses.awk "$file.out" >"$file.addresses"
         if [[ $who == project ]]; then
-            awk -f bench/project.awk "$file.addresses" "$out/listing"
+            python3 bench/project.py "$file.addresses" "$out/listing"
         else
             cut -d' ' -f1 "$file.addresses" | "${binutils}addr2line" -f -e "$program" | paste -d' ' - - |
                 paste -d' ' "$file.addresses" - | awk -v names="$names" -f bench/second.awk

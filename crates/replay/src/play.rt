@@ -4,6 +4,7 @@ use replay_rules::play::Turn;
 use rules::answer::Answer;
 use rules::event::Numbers;
 use rules::state::State;
+use text::answer::LONGEST;
 use text::answer::write_answer;
 use text::answer::write_quickly;
 use text::quick::read_quickly;
@@ -98,7 +99,7 @@ fn drive(s: State, alone: bool, e: Numbers, trace: &[u8], out: &mut [u8]) -> Dri
     let mut records: usize = 0;
     let mut used: usize = 0;
     let mut written: usize = 0;
-    while 35 <= out.len() - written {
+    while LONGEST <= out.len() - written {
         let Parsed::Whole(r, n) = next_record(alone, e, &trace[used..]) else {
             return Driven {
                 code: 7,
@@ -148,7 +149,7 @@ pub fn event(s: State, e: Numbers) -> Answer
 {
     if chip::is_well_formed(s) {
         let none = [0u8; 1];
-        let mut room = [0u8; 35];
+        let mut room = [0u8; LONGEST];
         let d = drive(s, true, e, &none[1..], &mut room);
         let a = d.answer;
         return a;

@@ -8,6 +8,9 @@ ghost use mathlib.Core.List.{[], _∷_, _++_};
 ghost use Rattle.text_rules.specs.Names.{alertName, codeName, endName, replyName, thermName};
 ghost use Rattle.text_rules.specs.Answer.{digit, decimalOf, lineText, level, answerText, Front, Put};
 
+// The longest answer, whatever the code and the reply.
+pub const LONGEST: usize = 35;
+
 // Bytes as they are.
 fn put_text(out: &mut [u8], text: &[u8]) -> usize
     requires { ⌜ length (now text) ≤ length (now out) ⌝ }
@@ -166,7 +169,7 @@ fn put_quickly(out: &mut [u8], code: u8, reply: u8, alert: bool, therm: bool) ->
 pub fn write_quickly(out: &mut [u8], code: u8, reply: u8, alert: bool, therm: bool) -> Wrote
     ensures { λ r. ⌜ Put (answerText code reply alert therm) (now (out .entry)) (now (out .exit)) r ⌝ }
 {
-    if 35 <= out.len() {
+    if LONGEST <= out.len() {
         if code < 10 {
             return Wrote::Bytes(put_quickly(out, code, reply, alert, therm));
         }
