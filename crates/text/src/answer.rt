@@ -107,19 +107,19 @@ fn put_head(out: &mut [u8], code: u8) -> usize
     ensures { λ r. ⌜ Front (lineText codeName code ++ replyName) (now (out .entry)) (now (out .exit)) r ⌝ }
     ensures { λ r. ⌜ r ≡ 13 ⌝ }
 {
-    out[0] = 99;
-    out[1] = 111;
-    out[2] = 100;
-    out[3] = 101;
-    out[4] = 61;
+    out[0] = b'c';
+    out[1] = b'o';
+    out[2] = b'd';
+    out[3] = b'e';
+    out[4] = b'=';
     out[5] = 48 + code;
     out[6] = 10;
-    out[7] = 114;
-    out[8] = 101;
-    out[9] = 112;
-    out[10] = 108;
-    out[11] = 121;
-    out[12] = 61;
+    out[7] = b'r';
+    out[8] = b'e';
+    out[9] = b'p';
+    out[10] = b'l';
+    out[11] = b'y';
+    out[12] = b'=';
     13
 }
 
@@ -135,20 +135,20 @@ fn put_tail(out: &mut [u8], alert: bool, therm: bool) -> usize
     ensures { λ r. ⌜ Front (((10 ∷ []) ++ lineText alertName (level alert)) ++ lineText thermName (level therm)) (now (out .entry)) (now (out .exit)) r ⌝ }
 {
     out[0] = 10;
-    out[1] = 97;
-    out[2] = 108;
-    out[3] = 101;
-    out[4] = 114;
-    out[5] = 116;
-    out[6] = 61;
+    out[1] = b'a';
+    out[2] = b'l';
+    out[3] = b'e';
+    out[4] = b'r';
+    out[5] = b't';
+    out[6] = b'=';
     out[7] = digit_of(alert);
     out[8] = 10;
-    out[9] = 116;
-    out[10] = 104;
-    out[11] = 101;
-    out[12] = 114;
-    out[13] = 109;
-    out[14] = 61;
+    out[9] = b't';
+    out[10] = b'h';
+    out[11] = b'e';
+    out[12] = b'r';
+    out[13] = b'm';
+    out[14] = b'=';
     out[15] = digit_of(therm);
     out[16] = 10;
     17

@@ -172,7 +172,7 @@ fn line_at(s: &[u8], p: usize, letter: u8) -> Found
     requires { ⌜ p + 9 ≤ length (now s) ⌝ }
     ensures { λ r. ⌜ ((n : ℕ) → r .end ≡ n + 1 → (p ≤ n) × (lineOf (letter ∷ 61 ∷ []) (drop p (now (s .entry))) ≡ Is (r .value) (n + 1 - p)) × (n ≤ p + 8)) ⌝ }
 {
-    if pair(s[p], s[p + 1]) != pair(letter, 61) {
+    if pair(s[p], s[p + 1]) != pair(letter, b'=') {
         return none();
     }
     number_at(s, p + 2)
@@ -183,7 +183,7 @@ fn letter_of(i: u8) -> u8
     requires { ⌜ i ≤ 3 ⌝ }
     ensures { λ r. ⌜ r ≡ cond (eqb i 0) 100 (96 + i) ⌝ }
 {
-    if i == 0 { 100 } else { 96 + i }
+    if i == 0 { b'd' } else { 96 + i }
 }
 
 // The four lines by one call, which the compiler lays out four times. A value moves up as the next one comes.
@@ -191,7 +191,7 @@ fn read_lines(s: &[u8]) -> Parsed
     requires { ⌜ 39 ≤ length (now s) ⌝ }
     ensures { λ r. ⌜ ((q : Record) (n : ℕ) → r ≡ Whole q n → recordOf (now (s .entry)) ≡ Whole q n) ⌝ }
 {
-    if word(s[0], s[1], s[2], s[3]) != word(107, 105, 110, 100) {
+    if word(s[0], s[1], s[2], s[3]) != word(b'k', b'i', b'n', b'd') {
         return Parsed::Malformed;
     }
     let mut i: u8 = 0;
