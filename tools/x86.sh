@@ -21,7 +21,7 @@ if [[ ! -e $x86_library || -n $(find crates crates.txt -newer "$x86_library" -pr
     command -v rt >/dev/null || { echo "the library is missing or older than crates, and rt, which proves and builds it, is not on the PATH" >&2; exit 1; }
     mkdir -p target
     if [[ -t 2 ]]; then
-        echo "proving and building the library: some three minutes at the first run" >&2
+        echo "proving and building the library: some five minutes at the first run" >&2
     fi
     rt staticlib dlaveth >target/staticlib.out 2>&1 || { cat target/staticlib.out >&2; exit 1; }
 fi

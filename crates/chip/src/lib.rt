@@ -1,5 +1,6 @@
 // One ADT7461 as its bus sees it. `fresh` makes a state, `step` takes an event; both are total, and the last answer's state is the
-// next event's. `is_well_formed` and `is_alert_low` are for whoever joins several chips.
+// next event's. `step_well` and `refuse_state` are a step's two halves, for a loop that asks `is_well_formed` once; that and
+// `is_alert_low` are also for whoever joins several chips.
 mod answer;
 mod event;
 mod task;

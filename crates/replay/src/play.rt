@@ -24,7 +24,7 @@ ghost use Rattle.text_rules.specs.Record.{recordOf};
 ghost use Rattle.replay_rules.specs.declared.play.Turn.the-variants.{Stopped};
 ghost use Rattle.replay_rules.specs.Play.{Mid, Ran, Turned, numbersOf};
 
-// How far a drive came: code 7 where no record stands there, otherwise 8. Or what its one event was answered.
+// How far a drive came, where code 7 says that no record stands there; or what its one event was answered.
 struct Driven {
     code: u8,
     records: usize,
@@ -85,9 +85,9 @@ fn next_record(alone: bool, e: Numbers, rest: &[u8]) -> Parsed
     read_quickly(rest)
 }
 
-// Every event that a C program has answered goes through this one function. So the step has one caller, and the compiler lays it into the
-// loop. Records are answered while there is room for the longest answer: no state from before the step has to be kept. With `alone`
-// the event that is handed over is answered, and nothing else.
+// Every event that a call from C gives a well-formed chip goes through this one function. So in C's library the step has one caller, and the
+// compiler lays it into the loop. Records are answered while there is room for the longest answer: no state from before the step has to be
+// kept. With `alone` the event that is handed over is answered, and nothing else.
 fn drive(s: State, alone: bool, e: Numbers, trace: &[u8], out: &mut [u8]) -> Driven
     requires { ⌜ wellFormed s ≡ true ⌝ }
     requires { ⌜ (alone ≡ true → 35 ≤ length (now out)) ⌝ }

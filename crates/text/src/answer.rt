@@ -8,7 +8,7 @@ ghost use mathlib.Core.List.{[], _∷_, _++_};
 ghost use Rattle.text_rules.specs.Names.{alertName, codeName, endName, replyName, thermName};
 ghost use Rattle.text_rules.specs.Answer.{digit, decimalOf, lineText, level, answerText, Front, Put};
 
-// The longest answer, whatever the code and the reply.
+// The longest answer, of any code and any reply; with a code of one digit it is 33.
 pub const LONGEST: usize = 35;
 
 // Bytes as they are.

@@ -186,7 +186,8 @@ fn letter_of(i: u8) -> u8
     if i == 0 { b'd' } else { 96 + i }
 }
 
-// The four lines by one call, which the compiler lays out four times. A value moves up as the next one comes.
+// The four lines by one call, which the compiler lays out four times. A value moves up as the next one comes. What is not a whole record here
+// was not read, and no more is said of it.
 fn read_lines(s: &[u8]) -> Parsed
     requires { ⌜ 39 ≤ length (now s) ⌝ }
     ensures { λ r. ⌜ ((q : Record) (n : ℕ) → r ≡ Whole q n → recordOf (now (s .entry)) ≡ Whole q n) ⌝ }
