@@ -302,7 +302,7 @@ def places(crate, name):
 # A request of document 02 brings at most five edits of definitions and two of code.
 WEIGHTS = {
     "rules": 1, "text_rules": 1, "replay_rules": 1, "console_rules": 1, "saved_rules": 1, "session_rules": 6, "power": 1, "judge": 1, "values": 2, "channel": 2, "events": 2, "registers": 3,
-    "show": 3, "console": 3, "saved": 3, "dlaveth": 9, "session": 14, "chip": 6, "replay": 8, "text": 9, "change": 8, "parts": 9,
+    "show": 3, "console": 3, "saved": 3, "dlaveth": 9, "session": 14, "chip": 6, "replay": 8, "text": 11, "change": 8, "parts": 9,
 }
 BUDGET, REQUEST = 250, 17
 
