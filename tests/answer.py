@@ -482,7 +482,7 @@ def built_first(room):
     more = {"cwd": room, "env": os.environ | {"PATH": f"{room / 'bin'}:{os.environ['PATH']}", "ROOM": str(room)}}
     for what, made, words in [("library", "staticlib/libdlaveth.a", ["bash", "-c", "set -euo pipefail; . tools/x86.sh"]),
                               ("small program", "bin/console", [room / "tools" / "replay.sh"])]:
-        line = f"proving and building the {what}: some three minutes at the first run\r\n"
+        line = f"proving and building the {what}: some five minutes at the first run\r\n"
         have = at_terminal(words, **more), at_terminal(words, **more)
         check(f"the {what} is built first: a terminal is told so, and told once", differs(have, ((0, "", line), (0, "", ""))))
         (room / "target" / made).unlink()
