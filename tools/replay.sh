@@ -13,7 +13,7 @@ program=$root/target/bin/console
 if [[ ! -e $program || -n $(find "$root/crates" "$root/crates.txt" -newer "$program" -print -quit) ]]; then
     mkdir -p "$root/target"
     if [[ -t 2 ]]; then
-        echo "proving and building the small program: some three minutes at the first run" >&2
+        echo "proving and building the small program: some five minutes at the first run" >&2
     fi
     (cd "$root" && rt check console) >"$root/target/console.out" 2>&1 </dev/null || { cat "$root/target/console.out" >&2; exit 1; }
     touch "$program"    # rt leaves it as it is where nothing that it is made of changed
