@@ -1,7 +1,7 @@
 // Document 01, Comparisons and Status: what the end of a conversion does.
-use crate::runs::any_fault;
 use crate::runs::counted;
 use crate::runs::sets;
+use channel::compare::fault;
 use channel::convert::converted as channel_converted;
 use parts::channels::local;
 use parts::channels::remote;
@@ -14,7 +14,8 @@ use rules::event::Samples;
 use rules::register::Channel;
 use rules::state::State;
 ghost use mathlib.Core.Path.{_≡_};
-ghost use Rattle.rules.specs.Conversion.{allConverted, codeFor, latchedByConversion};
+ghost use Rattle.rules.specs.Channels.{comparedIn};
+ghost use Rattle.rules.specs.Conversion.{allConverted, codeFor, foundIn, latchedByConversion};
 ghost use Rattle.rules.specs.Conversion as rule;
 ghost use Rattle.rules.specs.State.{storedOf};
 
@@ -40,24 +41,49 @@ fn remote_code(s: State, sample: i16) -> u16
     )
 }
 
+// Whether the conversion compares a channel: an open diode holds back its own.
+fn compared_in(t: Samples, channel: Channel) -> bool
+    ensures { λ r. ⌜ r ≡ comparedIn t channel ⌝ }
+{
+    match channel {
+        Channel::Local => true,
+        Channel::Remote => !t.broken,
+    }
+}
+
 fn all_converted(s: State, t: Samples) -> State
     ensures { λ r. ⌜ r ≡ allConverted s t ⌝ }
 {
-    let l = channel_converted(local_limits(s), local_code(s, t.local), false, local(s));
+    let l = channel_converted(
+        local_limits(s),
+        local_code(s, t.local),
+        compared_in(t, Channel::Local),
+        false,
+        local(s),
+    );
     let r = channel_converted(
         remote_limits(s),
         remote_code(s, t.remote),
+        compared_in(t, Channel::Remote),
         t.broken,
         remote(s),
     );
     with_remote(with_local(s, l), r)
 }
 
-fn run_counted(s: State) -> State
-    ensures { λ r. ⌜ r ≡ rule.counted s ⌝ }
+// A verdict that stands from an earlier conversion is no fault found in this one.
+fn found_in(t: Samples, s: State) -> bool
+    ensures { λ r. ⌜ r ≡ foundIn t s ⌝ }
+{
+    (compared_in(t, Channel::Local) & fault(local(s)))
+        | (compared_in(t, Channel::Remote) & fault(remote(s)))
+}
+
+fn run_counted(t: Samples, s: State) -> State
+    ensures { λ r. ⌜ r ≡ rule.counted t s ⌝ }
 {
     State {
-        runs: counted(s.runs, any_fault(s)),
+        runs: counted(s.runs, found_in(t, s)),
         ..s
     }
 }
@@ -74,7 +100,7 @@ fn latched(t: Samples, s: State) -> State
 pub fn converted(s: State, t: Samples) -> State
     ensures { λ r. ⌜ r ≡ rule.converted s t ⌝ }
 {
-    let after = latched(t, run_counted(all_converted(s, t)));
+    let after = latched(t, run_counted(t, all_converted(s, t)));
     State {
         busy: false,
         ..after

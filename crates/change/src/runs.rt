@@ -6,7 +6,7 @@ use rules::state::State;
 ghost use mathlib.Core.Path.{_≡_};
 ghost use mathlib.Core.Bool.{cond};
 ghost use Prim.Native.Nat.{_+_, _≤_};
-ghost use Rattle.rules.specs.Conversion.{anyFault};
+ghost use Rattle.rules.specs.Write.{anyFault};
 ghost use Rattle.rules.specs.Runs.{runsOf, neededOf, convertedSets};
 
 pub fn any_fault(s: State) -> bool

@@ -5,7 +5,7 @@ use rules::state::ChannelState;
 use rules::state::Limits;
 ghost use mathlib.Core.Path.{_≡_};
 ghost use Rattle.rules.specs.Comparisons.{diodeOf};
-ghost use Rattle.rules.specs.Conversion.{measuredOf, convertedOf};
+ghost use Rattle.rules.specs.Conversion.{measuredOf, takenOf, convertedOf};
 
 fn measured(code: u16, c: ChannelState) -> ChannelState
     ensures { λ r. ⌜ r ≡ measuredOf code c ⌝ }
@@ -27,8 +27,15 @@ fn checked(broken: bool, c: ChannelState) -> ChannelState
     }
 }
 
-pub fn converted(l: Limits, code: u16, broken: bool, c: ChannelState) -> ChannelState
-    ensures { λ r. ⌜ r ≡ convertedOf l code broken c ⌝ }
+// Where the conversion does not compare the channel, it is no conversion of it.
+fn taken(l: Limits, code: u16, compares: bool, c: ChannelState) -> ChannelState
+    ensures { λ r. ⌜ r ≡ takenOf l code compares c ⌝ }
 {
-    checked(broken, compared(l, measured(code, c)))
+    if compares { compared(l, measured(code, c)) } else { c }
+}
+
+pub fn converted(l: Limits, code: u16, compares: bool, broken: bool, c: ChannelState) -> ChannelState
+    ensures { λ r. ⌜ r ≡ convertedOf l code compares broken c ⌝ }
+{
+    checked(broken, taken(l, code, compares, c))
 }

@@ -12,6 +12,7 @@ pub mod Lists
 pub mod Match
 pub mod Meant
 pub mod NeverSix
+pub mod OpenDiode
 pub mod Rows
 pub mod Status
 pub mod Steps

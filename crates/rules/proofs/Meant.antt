@@ -11,7 +11,7 @@ use borrow.Author.Tests.{eq-eqb, eqb-true, le-leb, le-ltb, lt-leb, lt-ltb, ltb-f
 use Rattle.rules.specs.declared.register.Channel.the-variants.{Local, Remote}
 use Rattle.rules.specs.declared.register.Register.the-variants.{RemoteOffset, RemoteOffsetFine}
 use Rattle.rules.specs.Conversion.{codeFor}
-use Rattle.rules.specs.Meant.{AnyMeans, BitsMean, Clamped, CodesMean, ComparisonsOrder, FlagsMean, KeepsMean, LimitsMean, ListsMean, MadeMeans, OffsetsMean, SamplesMean, SixMeans, ThermBitsMean, ThermCompares, TrimMeans, bytes}
+use Rattle.rules.specs.Meant.{AnyMeans, BitsMean, Clamped, CodesMean, ComparedMeans, ComparisonsOrder, FlagsMean, KeepsMean, LimitsMean, ListsMean, MadeMeans, OffsetsMean, SamplesMean, SixMeans, ThermBitsMean, ThermCompares, TrimMeans, bytes}
 use Rattle.rules.specs.Rows.{trimOf}
 use Rattle.rules.specs.Values.{clampOf, codeOf, offsetOf}
 
@@ -122,6 +122,9 @@ therm-bits-mean = (refl, refl)
 
 pub samples-mean : SamplesMean
 samples-mean t = (refl, refl, refl, refl)
+
+pub compared-means : ComparedMeans
+compared-means t = (refl, λ e. rw e, λ e. rw e)
 
 pub made-means : MadeMeans
 made-means =

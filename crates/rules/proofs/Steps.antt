@@ -17,14 +17,15 @@ use Rattle.rules.specs.declared.register.Target.{Target}
 use Rattle.rules.specs.declared.register.Target.the-variants.{Stored as Into, OneShot, Nowhere}
 use Rattle.rules.specs.declared.state.ChannelState.{ChannelState}
 use Rattle.rules.specs.declared.state.Given.{Given}
+use Rattle.rules.specs.declared.state.Limits.{Limits}
 use Rattle.rules.specs.declared.state.Mark.{Mark}
 use Rattle.rules.specs.declared.state.State.{State}
 use Rattle.rules.specs.Alarm.{findingAt, findsLimit, findsOpen, isFault, limitFound, lineFree, viewOf}
-use Rattle.rules.specs.Channels.{anyChannel, brokenAt, sampleAt, traits}
+use Rattle.rules.specs.Channels.{anyChannel, brokenAt, comparedIn, sampleAt, traits}
 use Rattle.rules.specs.Commands.{sourceOf, targetOf}
 use Rattle.rules.specs.Comparisons.{aboveOf, belowOf, comparatorOf, comparedOf, faultOf, limitsOf, recomparedOf, verdictOf}
 use Rattle.rules.specs.Configuration.{choosesTherm2, masked, standby}
-use Rattle.rules.specs.Conversion.{codeFor, converted, convertedOf}
+use Rattle.rules.specs.Conversion.{codeFor, converted, convertedOf, takenOf}
 use Rattle.rules.specs.History.{didOf, Entry, Facts, Finding, View, askFacts, bytesAfter, comparesAt, endFacts, entryOf, foundIf, measuredView, noFacts, outcome, pointed, powered, readFacts, runningAfter, startedView, writeFacts, writtenView}
 use Rattle.rules.specs.History.Finding.{MadeNone, FoundNothing, FoundFault}
 use Rattle.rules.specs.Lines.{alertLow}
@@ -38,6 +39,7 @@ use Rattle.rules.specs.Status.Fault.{Above, Below, Open}
 use Rattle.rules.specs.Step.{answerOf, applyOf, checkedOf, done, endOf, refused, responded, respondOf, responseOf, silent, startOf}
 use Rattle.rules.specs.Therm.{hotAfter}
 use Rattle.rules.specs.Write.{comparedIf, standbyCompared, stored, written, writtenTo}
+use Rattle.rules.proofs.Choice.{whichever}
 use Rattle.rules.proofs.Commands.{compare-named, comparesTo, isInto, isOneShot, isStatus, register-named, shot-named, status-named}
 use Rattle.rules.proofs.Lists.{no}
 use Rattle.rules.proofs.Rows.{channels-back, same-one, stored-back}
@@ -165,7 +167,7 @@ at-source s p n l v is reply Hole = moved s v reply p n l is
 
 -- ---- Comparisons ----
 
-outcome-fault : (b : Bool) → isFault (outcome b) ≡ b
+pub outcome-fault : (b : Bool) → isFault (outcome b) ≡ b
 outcome-fault true = refl
 outcome-fault false = refl
 
@@ -177,6 +179,43 @@ by-outcome false m = refl
 each-same : (p q : Channel → Bool) → ((ch : Channel) → p ch ≡ q ch) → anyChannel p ≡ anyChannel q
 each-same p q e = ap anyChannel (λ i ch. e ch i)
 
+-- a channel compared while it holds this value, or left as it was
+module _ (l : Limits) (value : ℕ) (converted : Bool) (c : ChannelState) where
+  abbrev chosen : Bool → ChannelState
+  chosen x =
+      cond x (comparedOf l (record { value = value; converted = converted; high = c .high; low = c .low; diode = c .diode; therm = c .therm })) c
+
+  abbrev above : Bool → Finding
+  above x = foundIf x (aboveOf (l .high) (chosen x .value))
+
+  abbrev below : Bool → Finding
+  below x = foundIf x (belowOf (l .low) (chosen x .value))
+
+  chosen-high : (x : Bool) → chosen x .high ≡ byFinding (above x) (c .high)
+  unfolding comparedOf
+  chosen-high true = by-outcome (aboveOf (l .high) value) (c .high)
+  chosen-high false = refl
+
+  chosen-low : (x : Bool) → chosen x .low ≡ byFinding (below x) (c .low)
+  unfolding comparedOf
+  chosen-low true = by-outcome (belowOf (l .low) value) (c .low)
+  chosen-low false = refl
+
+  chosen-diode : (x : Bool) → chosen x .diode ≡ c .diode
+  unfolding comparedOf
+  chosen-diode true = refl
+  chosen-diode false = refl
+
+  chosen-found : (x : Bool) → x && (chosen x .high .found || chosen x .low .found) ≡ (isFault (above x) || isFault (below x))
+  unfolding comparedOf
+  chosen-found true = rw (outcome-fault (aboveOf (l .high) value), outcome-fault (belowOf (l .low) value))
+  chosen-found false = refl
+
+  chosen-therm : (x : Bool) → chosen x .therm ≡ cond x (comparatorOf (l .therm) (l .hysteresis) (chosen x .value) (c .therm)) (c .therm)
+  unfolding comparedOf
+  chosen-therm true = refl
+  chosen-therm false = refl
+
 module _ (s : State) (reply : ℕ) (p : Rest) (f : Register → ℕ) where
   abbrev again : Channel → ChannelState
   again ch = recomparedOf (limitsOf f ch) (channelAt s ch)
@@ -185,47 +224,23 @@ module _ (s : State) (reply : ℕ) (p : Rest) (f : Register → ℕ) where
   anew = entry (writeFacts (viewOf s) true) (viewFrom (givenOf s) p f again) reply
 
   again-mark : (ch : Channel) (k : Fault) → markOf (again ch) k ≡ marked anew ch k (markOf (channelAt s ch) k)
+  again-mark ch Above = let c = channelAt s ch in chosen-high (limitsOf f ch) (c .value) (c .converted) c (c .converted)
+  again-mark ch Below = let c = channelAt s ch in chosen-low (limitsOf f ch) (c .value) (c .converted) c (c .converted)
+  again-mark ch Open = let c = channelAt s ch in chosen-diode (limitsOf f ch) (c .value) (c .converted) c (c .converted)
+
+  again-kept : (ch : Channel) → (again ch .converted ≡ channelAt s ch .converted) × (again ch .value ≡ channelAt s ch .value)
   unfolding comparedOf
-  again-mark ch Above = by (channelAt s ch .converted)
-    where
-      c : ChannelState
-      c = channelAt s ch
-
-      by : (t : Bool) → cond t (comparedOf (limitsOf f ch) c) c .high ≡ byFinding (foundIf t (aboveOf (limitsOf f ch .high) (cond t (comparedOf (limitsOf f ch) c) c .value))) (c .high)
-      by true = by-outcome (aboveOf (limitsOf f ch .high) (c .value)) (c .high)
-      by false = refl
-  again-mark ch Below = by (channelAt s ch .converted)
-    where
-      c : ChannelState
-      c = channelAt s ch
-
-      by : (t : Bool) → cond t (comparedOf (limitsOf f ch) c) c .low ≡ byFinding (foundIf t (belowOf (limitsOf f ch .low) (cond t (comparedOf (limitsOf f ch) c) c .value))) (c .low)
-      by true = by-outcome (belowOf (limitsOf f ch .low) (c .value)) (c .low)
-      by false = refl
-  again-mark ch Open = by (channelAt s ch .converted)
-    where
-      c : ChannelState
-      c = channelAt s ch
-
-      by : (t : Bool) → cond t (comparedOf (limitsOf f ch) c) c .diode ≡ c .diode
-      by true = refl
-      by false = refl
+  again-kept ch =
+      let c = channelAt s ch in
+      whichever (λ (d : ChannelState). (d .converted ≡ c .converted) × (d .value ≡ c .value)) (c .converted) (comparedOf (limitsOf f ch) c) c (refl, refl) (refl, refl)
 
   again-fault : (ch : Channel) → faultOf (again ch) ≡ limitFound anew ch
-  unfolding comparedOf
-  again-fault ch = by (channelAt s ch) (channelAt s ch .converted) refl
-    where
-      by : (c : ChannelState) (t : Bool) → c .converted ≡ t → faultOf (cond t (comparedOf (limitsOf f ch) c) c) ≡ (isFault (foundIf t (aboveOf (limitsOf f ch .high) (cond t (comparedOf (limitsOf f ch) c) c .value))) || isFault (foundIf t (belowOf (limitsOf f ch .low) (cond t (comparedOf (limitsOf f ch) c) c .value))))
-      by c true e = rw (e, outcome-fault (aboveOf (limitsOf f ch .high) (c .value)), outcome-fault (belowOf (limitsOf f ch .low) (c .value)))
-      by c false e = rw e
+  again-fault ch =
+      let c = channelAt s ch in
+      rw (again-kept ch .0) (chosen-found (limitsOf f ch) (c .value) (c .converted) c (c .converted))
 
   again-therm : (ch : Channel) → again ch .therm ≡ hotAfter anew ch (channelAt s ch .therm)
-  unfolding comparedOf
-  again-therm ch = by (channelAt s ch) (channelAt s ch .converted)
-    where
-      by : (c : ChannelState) (t : Bool) → cond t (comparedOf (limitsOf f ch) c) c .therm ≡ cond t (comparatorOf (limitsOf f ch .therm) (limitsOf f ch .hysteresis) (cond t (comparedOf (limitsOf f ch) c) c .value) (c .therm)) (c .therm)
-      by c true = refl
-      by c false = refl
+  again-therm ch = let c = channelAt s ch in chosen-therm (limitsOf f ch) (c .value) (c .converted) c (c .converted)
 
   -- a comparison in standby
   standby-steps : p .runs ≡ s .runs → p .latch ≡ s .latch → (v : View) → viewFrom (givenOf s) p f (channelAt s) ≡ v → Steps s (entry (writeFacts (viewOf s) true) v reply) (standbyCompared (stateFrom (givenOf s) p f (channelAt s)))
@@ -237,15 +252,8 @@ module _ (s : State) (reply : ℕ) (p : Rest) (f : Register → ℕ) where
       after : Rest
       after = record { pointer = p .pointer; busy = p .busy; runs = p .runs; latch = p .latch || anyChannel (λ ch. faultOf (again ch)) }
 
-      kept : (ch : Channel) → (again ch .converted ≡ channelAt s ch .converted) × (again ch .value ≡ channelAt s ch .value)
-      kept ch = by (channelAt s ch) (channelAt s ch .converted)
-        where
-          by : (c : ChannelState) (t : Bool) → (cond t (comparedOf (limitsOf f ch) c) c .converted ≡ c .converted) × (cond t (comparedOf (limitsOf f ch) c) c .value ≡ c .value)
-          by c true = (refl, refl)
-          by c false = (refl, refl)
-
       looks : viewFrom (givenOf s) after f again ≡ viewFrom (givenOf s) p f (channelAt s)
-      looks = λ i. record { address = s .address; pointer = p .pointer; running = p .busy; registers = f; converted = λ ch. kept ch .0 i; value = λ ch. kept ch .1 i }
+      looks = λ i. record { address = s .address; pointer = p .pointer; running = p .busy; registers = f; converted = λ ch. again-kept ch .0 i; value = λ ch. again-kept ch .1 i }
 
 -- ---- A conversion ----
 
@@ -271,10 +279,10 @@ module _ (s : State) (w : Well s) (t : Samples) where
   code ch = codeFor (storedOf s) ch (sampleAt t ch)
 
   abbrev made : Channel → ChannelState
-  made ch = convertedOf (limitsOf (storedOf s) ch) (code ch) (brokenAt t ch) (channelAt s ch)
+  made ch = convertedOf (limitsOf (storedOf s) ch) (code ch) (comparedIn t ch) (brokenAt t ch) (channelAt s ch)
 
   abbrev faulty : Bool
-  faulty = anyChannel (λ ch. faultOf (made ch))
+  faulty = anyChannel (λ ch. comparedIn t ch && faultOf (made ch))
 
   abbrev rest : Rest
   rest =
@@ -289,16 +297,32 @@ module _ (s : State) (w : Well s) (t : Samples) where
   ends = entry (endFacts true t) (viewFrom (givenOf s) rest (storedOf s) made) 0
 
   made-mark : (ch : Channel) (k : Fault) → markOf (made ch) k ≡ marked ends ch k (markOf (channelAt s ch) k)
-  unfolding convertedOf comparedOf
-  made-mark ch Above = by-outcome (aboveOf (limitsOf (storedOf s) ch .high) (code ch)) (channelAt s ch .high)
-  made-mark ch Below = by-outcome (belowOf (limitsOf (storedOf s) ch .low) (code ch)) (channelAt s ch .low)
+  unfolding convertedOf takenOf
+  made-mark ch Above = chosen-high (limitsOf (storedOf s) ch) (code ch) true (channelAt s ch) (comparedIn t ch)
+  made-mark ch Below = chosen-low (limitsOf (storedOf s) ch) (code ch) true (channelAt s ch) (comparedIn t ch)
   made-mark ch Open =
-      unchecked (traits ch .diode) (brokenAt t ch) (channelAt s ch .diode) (diode-checked t ch) (w .channels-fit ch .diode)
+      ap (λ (m : Mark). verdictOf m (brokenAt t ch)) (chosen-diode (limitsOf (storedOf s) ch) (code ch) true (channelAt s ch) (comparedIn t ch))
+      ∙ unchecked (traits ch .diode) (brokenAt t ch) (channelAt s ch .diode) (diode-checked t ch) (w .channels-fit ch .diode)
 
-  made-fault : (ch : Channel) → faultOf (made ch) ≡ limitFound ends ch
-  unfolding convertedOf comparedOf
-  made-fault ch =
-      rw (outcome-fault (aboveOf (limitsOf (storedOf s) ch .high) (code ch)), outcome-fault (belowOf (limitsOf (storedOf s) ch .low) (code ch)))
+  made-seen : (ch : Channel) → (made ch .converted ≡ (comparedIn t ch || channelAt s ch .converted)) × (made ch .value ≡ cond (comparedIn t ch) (code ch) (channelAt s ch .value))
+  unfolding convertedOf takenOf comparedOf
+  made-seen ch = by (comparedIn t ch)
+    where
+      by : (x : Bool) → (takenOf (limitsOf (storedOf s) ch) (code ch) x (channelAt s ch) .converted ≡ (x || channelAt s ch .converted)) × (takenOf (limitsOf (storedOf s) ch) (code ch) x (channelAt s ch) .value ≡ cond x (code ch) (channelAt s ch .value))
+      by true = (refl, refl)
+      by false = (refl, refl)
+
+  made-fault : (ch : Channel) → comparedIn t ch && faultOf (made ch) ≡ limitFound ends ch
+  unfolding convertedOf takenOf
+  made-fault ch = by (comparedIn t ch) (made-seen ch .0) ∙ chosen-found (limitsOf (storedOf s) ch) (code ch) true (channelAt s ch) (comparedIn t ch)
+    where
+      by : (x : Bool) → made ch .converted ≡ (x || channelAt s ch .converted) → x && faultOf (made ch) ≡ x && (made ch .high .found || made ch .low .found)
+      by true e = rw e
+      by false e = refl
+
+  made-therm : (ch : Channel) → made ch .therm ≡ hotAfter ends ch (channelAt s ch .therm)
+  unfolding convertedOf takenOf
+  made-therm ch = chosen-therm (limitsOf (storedOf s) ch) (code ch) true (channelAt s ch) (comparedIn t ch)
 
   made-latch : rest .latch ≡ latchAfter s ends (rest .runs)
   made-latch =
@@ -307,11 +331,14 @@ module _ (s : State) (w : Well s) (t : Samples) where
       (each-same (brokenAt t) (λ ch. isFault (findingAt ends ch Open)) (λ ch. open-found (traits ch .diode) (brokenAt t ch) (diode-checked t ch)))
       ∙ or-comm (s .latch) _)
 
+  looks-made : viewFrom (givenOf s) rest (storedOf s) made ≡ measuredView (viewOf s) t
+  looks-made = λ i. record { address = s .address; pointer = s .pointer; running = false; registers = storedOf s; converted = λ ch. made-seen ch .0 i; value = λ ch. made-seen ch .1 i }
+
   converted-steps : Steps s (entry (endFacts true t) (measuredView (viewOf s) t) 0) (converted s t)
-  unfolding converted convertedOf comparedOf
+  unfolding converted
   converted-steps =
-      became s (endFacts true t) (measuredView (viewOf s) t) 0 rest (storedOf s) made refl
-      (made-mark, ap (runsOf (s .runs)) (each-same (λ ch. faultOf (made ch)) (limitFound ends) made-fault), made-latch, λ ch. refl)
+      became s (endFacts true t) (measuredView (viewOf s) t) 0 rest (storedOf s) made looks-made
+      (made-mark, ap (runsOf (s .runs)) (each-same (λ ch. comparedIn t ch && faultOf (made ch)) (limitFound ends) made-fault), made-latch, made-therm)
 
   end-steps : Steps s (entryOf (viewOf s) (Good (End t)) 0) (applyOf s (End t) .state)
   unfolding applyOf endOf

@@ -2,7 +2,7 @@
 use mathlib.Core.Path.{refl}
 use Rattle.rules.specs.Commands.{sourceOf, targetOf}
 use Rattle.rules.specs.Comparisons.{comparedOf}
-use Rattle.rules.specs.Conversion.{codeFor, converted, convertedOf}
+use Rattle.rules.specs.Conversion.{codeFor, converted, convertedOf, takenOf}
 use Rattle.rules.specs.Read.{readAtPointer}
 use Rattle.rules.specs.Runs.{neededOf}
 use Rattle.rules.specs.Status.{statusOf, afterStatus}
@@ -20,7 +20,7 @@ use Rattle.rules.specs.RuleCases.{RuleCases, ruleRows}
 
 -- to unfold this is to unfold all that a step computes with
 unfoldable pub opened : Unit {0}
-unfolding sourceOf targetOf comparedOf codeFor converted convertedOf readAtPointer neededOf statusOf afterStatus applyOf endOf respondOf startOf stepOf lastFrom codeOf offsetOf wellFormed standbyCompared stored written
+unfolding sourceOf targetOf comparedOf codeFor converted convertedOf takenOf readAtPointer neededOf statusOf afterStatus applyOf endOf respondOf startOf stepOf lastFrom codeOf offsetOf wellFormed standbyCompared stored written
 opened = tt
 
 pub bench-cases : BenchCases
@@ -40,7 +40,7 @@ unfolding opened inARow latched latest clearingReadsThatShowed spellsOpened stan
 premises-met = refl
 
 pub forms-met : FormsMet
-forms-met = (refl, refl)
+forms-met = (refl, refl, refl)
 
 pub counts-met : CountsMet
 unfolding opened inARow latched latest clearingReadsThatShowed spellsOpened stands uncleared unread historyFrom counted

@@ -26,11 +26,11 @@ use Rattle.rules.specs.declared.state.Given.{Given}
 use Rattle.rules.specs.declared.state.Limits.{Limits}
 use Rattle.rules.specs.declared.state.Mark.{Mark}
 use Rattle.rules.specs.declared.state.State.{State}
-use Rattle.rules.specs.Channels.{all, brokenAt, byteOf, channels, fineOf, sampleAt, scaleOf, traits}
+use Rattle.rules.specs.Channels.{all, brokenAt, byteOf, channels, comparedIn, fineOf, sampleAt, scaleOf, traits}
 use Rattle.rules.specs.Commands.{sourceOf, targetOf}
 use Rattle.rules.specs.Comparisons.{comparedOf, limitsOf, recomparedOf}
 use Rattle.rules.specs.Configuration.{extended, standby}
-use Rattle.rules.specs.Conversion.{allConverted, anyFault, codeFor, converted, convertedOf, counted, latchedByConversion}
+use Rattle.rules.specs.Conversion.{allConverted, codeFor, converted, convertedOf, counted, foundIn, latchedByConversion, measuredOf, takenOf}
 use Rattle.rules.specs.PowerOn.{isAddress, madeAt, newChannel, newRest, noState, powerOn}
 use Rattle.rules.specs.Read.{afterRead, readAtPointer}
 use Rattle.rules.specs.Rows.{Keeps, keptBits, keptIn, registers, rowOf, same, trimOf}
@@ -215,10 +215,16 @@ code-fits f ch sample =
     let offset = offsetOf (byteOf f (traits ch .offset)) (fineOf f (traits ch .offset)) in
     le-leb (codeFor f ch sample) _ (le-trans (clamped (topOf n wide) (sample +ℤ offset +ℤ pos (shiftOf n wide))) (in-range n wide))
 
-converted-fit : (ch : Channel) (l : Limits) (code : ℕ) (broken : Bool) (c : ChannelState) → leb code (topOf (scaleOf ch) true) ≡ true → broken && not (traits ch .diode) ≡ false → Fit ch c → Fit ch (convertedOf l code broken c)
-unfolding convertedOf comparedOf
-converted-fit ch l code broken c small e f =
-    record { value = small; diode = checked-diode (traits ch .diode) broken (c .diode) e (f .diode) }
+taken-fit : (ch : Channel) (l : Limits) (code : ℕ) (compares : Bool) (c : ChannelState) → leb code (topOf (scaleOf ch) true) ≡ true → Fit ch c → Fit ch (takenOf l code compares c)
+unfolding takenOf comparedOf
+taken-fit ch l code compares c small f =
+    whichever (Fit ch) compares (comparedOf l (measuredOf code c)) c (record { value = small; diode = f .diode }) f
+
+converted-fit : (ch : Channel) (l : Limits) (code : ℕ) (compares broken : Bool) (c : ChannelState) → leb code (topOf (scaleOf ch) true) ≡ true → broken && not (traits ch .diode) ≡ false → Fit ch c → Fit ch (convertedOf l code compares broken c)
+unfolding convertedOf
+converted-fit ch l code compares broken c small e f =
+    let g = taken-fit ch l code compares c small f in
+    record { value = g .value; diode = checked-diode (traits ch .diode) broken (takenOf l code compares c .diode) e (g .diode) }
 
 counted-fits : (n : ℕ) (fault : Bool) → leb (runsOf n fault) 4 ≡ true
 counted-fits n true = by (ltb n 4) refl
@@ -232,9 +238,9 @@ converted-well : (s : State) (t : Samples) → Well s → Well (converted s t)
 unfolding converted
 converted-well s t w =
     let u = allConverted s t in
-    let v = counted u in
-    let small = counted-fits (s .runs) (anyFault u) in
-    let fit : (ch : Channel) → Fit ch (convertedOf (limitsOf (storedOf s) ch) (codeFor (storedOf s) ch (sampleAt t ch)) (brokenAt t ch) (channelAt s ch)) = λ ch. converted-fit ch (limitsOf (storedOf s) ch) (codeFor (storedOf s) ch (sampleAt t ch)) (brokenAt t ch) (channelAt s ch) (code-fits (storedOf s) ch (sampleAt t ch)) (diode-checked t ch) (w .channels-fit ch) in
+    let v = counted t u in
+    let small = counted-fits (s .runs) (foundIn t u) in
+    let fit : (ch : Channel) → Fit ch (convertedOf (limitsOf (storedOf s) ch) (codeFor (storedOf s) ch (sampleAt t ch)) (comparedIn t ch) (brokenAt t ch) (channelAt s ch)) = λ ch. converted-fit ch (limitsOf (storedOf s) ch) (codeFor (storedOf s) ch (sampleAt t ch)) (comparedIn t ch) (brokenAt t ch) (channelAt s ch) (code-fits (storedOf s) ch (sampleAt t ch)) (diode-checked t ch) (w .channels-fit ch) in
     rest-well (latchedByConversion t v) _ small (rest-well v _ small (rest-well u _ small (channels-well s _ fit w)))
 
 -- ---- Each event ----

@@ -1,13 +1,13 @@
--- The premises of the claims in Alarm.antt, Assured.antt and Kept.antt are met, and what the history counts, in cases worked out by hand:
+-- The premises of the claims in Alarm.antt, Assured.antt, Kept.antt and OpenDiode.antt are met, and what the history counts, in cases worked out by hand:
 -- a claim whose premises nothing meets says nothing. Proved in proofs/Tables.antt. Assumes nothing.
 use Prim.Native.Nat.{ℕ}
 use mathlib.Core.Path.{_≡_}
-use mathlib.Core.Bool.{Bool, not, false}
-use mathlib.Core.List.{List, [], _∷_, map}
+use mathlib.Core.Bool.{Bool, not, true, false}
+use mathlib.Core.List.{List, [], _∷_, _++_, map}
 use lib.Dec.{eqb}
 use lib.IntN.ℤ.{pos}
 use Rattle.rules.specs.declared.event.Checked.the-variants.{Good}
-use Rattle.rules.specs.declared.event.Event.the-variants.{Reset, Write}
+use Rattle.rules.specs.declared.event.Event.the-variants.{End, Reset, Write}
 use Rattle.rules.specs.declared.event.Numbers.{Numbers}
 use Rattle.rules.specs.declared.register.Channel.the-variants.{Local, Remote}
 use Rattle.rules.specs.declared.register.Register.the-variants.{RemoteHigh}
@@ -21,7 +21,7 @@ use Rattle.rules.specs.PowerOn.{madeOf}
 use Rattle.rules.specs.Status.{Flag}
 use Rattle.rules.specs.Status.Fault.{Above, Open}
 use Rattle.rules.specs.Step.{after, stepOf}
-use Rattle.rules.specs.Trial.{convert, read, reset, respond, start, status, write}
+use Rattle.rules.specs.Trial.{convert, end, read, reset, respond, start, status, write}
 use Rattle.rules.specs.WellFormed.{wellFormed}
 
 -- K12: converted, put in standby, the remote high limit lowered under the value; then other events, but no status read
@@ -56,6 +56,23 @@ openFlag = record { channel = Remote; fault = Open }
 abbrev acknowledged : List Numbers
 acknowledged = write 0x0d 85 ∷ status ∷ respond ∷ []
 
+-- document 02, item 3: after a remote fault a conversion with the diode open, whose local value is within its limits, and two status reads:
+-- the fault's spell goes on, no read clears it, no fault is in a row, the remote value is the one before; the open flag has a spell of its own
+abbrev pulled : List Numbers
+pulled = convert (pos 20) (pos 341) (start ∷ end (pos 30) (pos 200) 1 ∷ status ∷ status ∷ [])
+
+-- then one with the diode closed and a status read, which clears both
+abbrev mended : List Numbers
+mended = pulled ++ convert (pos 20) (pos 200) (status ∷ [])
+
+-- from power-on, with a local value above its limit: that is one in a row; the remote channel has no value yet
+abbrev never : List Numbers
+never = write 0x0b 15 ∷ start ∷ end (pos 30) (pos 200) 1 ∷ []
+
+-- a conversion runs
+abbrev running : State
+running = stateOf (pos 76) (start ∷ [])
+
 unfoldable pub met : List Bool
 met =
     eqb (madeOf (pos 76) .code) 0 ∷ eqb (madeOf (pos 77) .code) 0 ∷ wellFormed (madeOf (pos 76) .state)
@@ -68,13 +85,16 @@ met =
     ∷ beyond (now 76 historyNow) Remote Above ∷ not (stands openFlag history)
     ∷ not (unread stateNow historyNow (status ∷ [])) ∷ not (unread stateNow historyNow (reset ∷ []))
     ∷ not (uncleared stateNow historyNow acknowledged) ∷ not (uncleared stateNow historyNow (reset ∷ []))
-    ∷ eqb (stepOf stateNow start .code) 4 ∷ []
+    ∷ eqb (stepOf stateNow start .code) 4 ∷ running .busy ∷ wellFormed running ∷ now 76 (historyOf (pos 76) (start ∷ [])) .running
+    ∷ now 76 (historyOf (pos 76) pulled) .converted Remote ∷ not (now 76 (historyOf (pos 76) never) .converted Remote) ∷ []
 
 abbrev pub PremisesMet : Type 0
 PremisesMet = any (map not met) ≡ false
 
 abbrev pub FormsMet : Type 0
-FormsMet = (checkOf lowered ≡ Good (Write 76 0x0d 40)) × (checkOf reset ≡ Good Reset)
+FormsMet =
+    (checkOf lowered ≡ Good (Write 76 0x0d 40)) × (checkOf reset ≡ Good Reset)
+    × (checkOf (end (pos 30) (pos 200) 1) ≡ Good (End (record { local = pos 30; remote = pos 200; broken = true })))
 
 -- two conversions above the limit with one below it and a status read between: two spells, one read that closed one, one fault in a row;
 -- the values seen are the codes of the samples, and the limit the byte last written
@@ -85,8 +105,14 @@ abbrev countsOf : Flag → History → List ℕ
 countsOf f h =
     spellsOpened f h ∷ clearingReadsThatShowed f h ∷ inARow h ∷ now 76 h .value Local ∷ now 76 h .value Remote ∷ now 76 h .registers RemoteHigh ∷ []
 
-unfoldable pub counted : List ℕ
-counted = countsOf remoteHigh (historyOf (pos 76) spells)
+unfoldable pub counted : List (List ℕ)
+counted =
+    countsOf remoteHigh (historyOf (pos 76) spells) ∷ countsOf remoteHigh (historyOf (pos 76) pulled)
+    ∷ countsOf openFlag (historyOf (pos 76) pulled) ∷ countsOf remoteHigh (historyOf (pos 76) mended)
+    ∷ countsOf openFlag (historyOf (pos 76) mended) ∷ countsOf remoteHigh (historyOf (pos 76) never) ∷ []
 
 abbrev pub CountsMet : Type 0
-CountsMet = counted ≡ (2 ∷ 1 ∷ 1 ∷ 21 ∷ 342 ∷ 84 ∷ [])
+CountsMet =
+    counted
+    ≡ ((2 ∷ 1 ∷ 1 ∷ 21 ∷ 342 ∷ 84 ∷ []) ∷ (1 ∷ 0 ∷ 0 ∷ 30 ∷ 341 ∷ 85 ∷ []) ∷ (1 ∷ 0 ∷ 0 ∷ 30 ∷ 341 ∷ 85 ∷ [])
+    ∷ (1 ∷ 1 ∷ 0 ∷ 20 ∷ 200 ∷ 85 ∷ []) ∷ (1 ∷ 1 ∷ 0 ∷ 20 ∷ 200 ∷ 85 ∷ []) ∷ (0 ∷ 0 ∷ 1 ∷ 30 ∷ 0 ∷ 85 ∷ []) ∷ [])

@@ -1,6 +1,6 @@
 -- The channels of the part, and as data what differs between them. Assumes nothing.
 use Prim.Native.Nat.{ℕ, _+_}
-use mathlib.Core.Bool.{Bool, _||_, _&&_, true, false}
+use mathlib.Core.Bool.{Bool, _||_, _&&_, not, true, false}
 use mathlib.Core.List.{List, [], _∷_, _++_, map}
 use lib.IntN.{ℤ}
 use Rattle.rules.specs.declared.event.Samples.{Samples}
@@ -81,6 +81,11 @@ sampleAt t Remote = t .remote
 abbrev pub brokenAt : Samples → Channel → Bool
 brokenAt t Local = false
 brokenAt t Remote = t .broken
+
+-- compared in this conversion: 02, item 3, "a conversion with the diode open .. stores and compares only the local channel", so each
+-- channel whose own diode is not open. What is stored, compared and counted, and the history, are by this
+abbrev pub comparedIn : Samples → Channel → Bool
+comparedIn t ch = not (brokenAt t ch)
 
 -- ---- Of all channels ----
 

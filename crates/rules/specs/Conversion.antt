@@ -1,6 +1,7 @@
--- Comparisons, "At kind 7, after both values are stored, both channels are compared and the diode checked". Assumes nothing.
+-- Comparisons, "At kind 7, after both values are stored, both channels are compared and the diode checked", but for a channel that an
+-- open diode holds back (document 02, item 3). Assumes nothing.
 use Prim.Native.Nat.{ℕ}
-use mathlib.Core.Bool.{Bool, _||_, true, false}
+use mathlib.Core.Bool.{Bool, cond, _||_, _&&_, true, false}
 use lib.IntN.{ℤ}
 use Rattle.rules.specs.declared.event.Samples.{Samples}
 use Rattle.rules.specs.declared.register.Channel.{Channel}
@@ -9,7 +10,7 @@ use Rattle.rules.specs.declared.register.Register.the-variants.{Config}
 use Rattle.rules.specs.declared.state.ChannelState.{ChannelState}
 use Rattle.rules.specs.declared.state.Limits.{Limits}
 use Rattle.rules.specs.declared.state.State.{State}
-use Rattle.rules.specs.Channels.{anyChannel, brokenAt, byteOf, fineOf, sampleAt, scaleOf, traits}
+use Rattle.rules.specs.Channels.{anyChannel, brokenAt, byteOf, comparedIn, fineOf, sampleAt, scaleOf, traits}
 use Rattle.rules.specs.Comparisons.{comparedOf, diodeOf, faultOf, limitsOf}
 use Rattle.rules.specs.Configuration.{extended}
 use Rattle.rules.specs.Runs.{convertedSets, runsOf}
@@ -26,22 +27,27 @@ abbrev pub measuredOf : ℕ → ChannelState → ChannelState
 measuredOf code c =
     record { value = code; converted = true; high = c .high; low = c .low; diode = c .diode; therm = c .therm }
 
--- one channel's part of a conversion: stored, compared, diode checked; "On an open diode the remote value is stored and compared
--- like any other"
-unfoldable pub convertedOf : Limits → ℕ → Bool → ChannelState → ChannelState
-convertedOf limits code broken c = diodeOf broken (comparedOf limits (measuredOf code c))
+-- stored, then compared; 02: of a channel that the conversion does not compare, value, THERM flag and latest limit verdicts "stand as they
+-- were", and "it doesn't count as a conversion; earlier ones still do"
+unfoldable pub takenOf : Limits → ℕ → Bool → ChannelState → ChannelState
+takenOf limits code compares c = cond compares (comparedOf limits (measuredOf code c)) c
+
+-- one channel's part of a conversion; the diode is checked in any case
+unfoldable pub convertedOf : Limits → ℕ → Bool → Bool → ChannelState → ChannelState
+convertedOf limits code compares broken c = diodeOf broken (takenOf limits code compares c)
 
 abbrev pub allConverted : State → Samples → State
 allConverted s t =
-    eachChannel (λ ch. convertedOf (limitsOf (storedOf s) ch) (codeFor (storedOf s) ch (sampleAt t ch)) (brokenAt t ch)) s
+    eachChannel
+    (λ ch. convertedOf (limitsOf (storedOf s) ch) (codeFor (storedOf s) ch (sampleAt t ch)) (comparedIn t ch) (brokenAt t ch)) s
 
--- a limit fault of any channel
-abbrev pub anyFault : State → Bool
-anyFault s = anyChannel (λ ch. faultOf (channelAt s ch))
+-- a limit fault that this conversion found: 02, "The run count looks at local faults only in that conversion"
+abbrev pub foundIn : Samples → State → Bool
+foundIn t s = anyChannel (λ ch. comparedIn t ch && faultOf (channelAt s ch))
 
 -- "Run count: completed conversions in a row in which any of the four limit faults was found"
-abbrev pub counted : State → State
-counted s = withRuns s (runsOf (s .runs) (anyFault s))
+abbrev pub counted : Samples → State → State
+counted t s = withRuns s (runsOf (s .runs) (foundIn t s))
 
 -- "by a kind 7 with the diode open, by a kind 7 after which the run count is at least the needed number"
 abbrev pub latchedByConversion : Samples → State → State
@@ -50,4 +56,4 @@ latchedByConversion t s =
 
 -- "Kind 7 ends busy"
 unfoldable pub converted : State → Samples → State
-converted s t = withBusy (latchedByConversion t (counted (allConverted s t))) false
+converted s t = withBusy (latchedByConversion t (counted t (allConverted s t))) false

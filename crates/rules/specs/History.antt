@@ -17,7 +17,7 @@ use Rattle.rules.specs.declared.register.Channel.{Channel}
 use Rattle.rules.specs.declared.register.Register.{Register}
 use Rattle.rules.specs.declared.register.Register.the-variants.{Config}
 use Rattle.rules.specs.Bits.{bit}
-use Rattle.rules.specs.Channels.{any, brokenAt, sampleAt, traits}
+use Rattle.rules.specs.Channels.{any, brokenAt, comparedIn, sampleAt, traits}
 use Rattle.rules.specs.Conversion.{codeFor}
 use Rattle.rules.specs.Event.{checkOf}
 use Rattle.rules.specs.Rows.{rowOf, trimOf}
@@ -72,10 +72,12 @@ writtenView v n b =
 abbrev pub startedView : View → View
 startedView v = view (v .address) (v .pointer) (v .running || not (inStandby v)) (v .registers) (v .converted) (v .value)
 
--- a channel's value is the code of its sample, under the offset and range in force
+-- the value of a channel that the conversion compares is the code of its sample, under the offset and range in force; 02, item 3: for one
+-- held back "it doesn't count as a conversion; earlier ones still do"
 abbrev pub measuredView : View → Samples → View
 measuredView v t =
-    view (v .address) (v .pointer) false (v .registers) (λ ch. true) (λ ch. codeFor (v .registers) ch (sampleAt t ch))
+    view (v .address) (v .pointer) false (v .registers) (λ ch. comparedIn t ch || v .converted ch)
+    (λ ch. cond (comparedIn t ch) (codeFor (v .registers) ch (sampleAt t ch)) (v .value ch))
 
 -- an event for another address does nothing; nor does the end of a conversion where none runs
 abbrev pub viewAfter : View → Event → View
@@ -139,10 +141,11 @@ comparesAt n = any (map (eqb n) comparing)
 abbrev pub writeFacts : View → Bool → Facts
 writeFacts v compares = facts false false (λ ch. compares && v .converted ch) noCheck false false
 
--- "At kind 7, after both values are stored, both channels are compared and the diode checked"
+-- "At kind 7, after both values are stored, both channels are compared and the diode checked"; 02: open, it "compares only the local
+-- channel"
 abbrev pub endFacts : Bool → Samples → Facts
 endFacts ends t =
-    facts false ends (λ ch. ends) (λ ch. foundIf (ends && traits ch .diode) (brokenAt t ch)) false false
+    facts false ends (λ ch. ends && comparedIn t ch) (λ ch. foundIf (ends && traits ch .diode) (brokenAt t ch)) false false
 
 -- "Kinds 3 and 4 reply the register at the pointer": a status read is one of register 02
 abbrev pub readFacts : Bool → Facts

@@ -13,7 +13,7 @@ use Rattle.rules.specs.declared.register.Register.{Register}
 use Rattle.rules.specs.declared.register.Register.the-variants.{Config, Hysteresis, LocalHigh, LocalLow, LocalTherm, RemoteHigh, RemoteHighFine, RemoteLow, RemoteLowFine, RemoteOffset, RemoteOffsetFine, RemoteTherm}
 use Rattle.rules.specs.declared.event.Samples.{Samples}
 use Rattle.rules.specs.Bits.{bit, weight}
-use Rattle.rules.specs.Channels.{all, any, anyChannel, brokenAt, sampleAt, sum, traits}
+use Rattle.rules.specs.Channels.{all, any, anyChannel, brokenAt, comparedIn, sampleAt, sum, traits}
 use Rattle.rules.specs.Comparisons.{aboveOf, belowOf, comparatorOf, limitsOf}
 use Rattle.rules.specs.Conversion.{codeFor}
 use Rattle.rules.specs.PowerOn.{madeOf}
@@ -138,6 +138,11 @@ ThermBitsMean = (traits Remote .thermBit ≡ 1) × (traits Local .thermBit ≡ 0
 abbrev pub SamplesMean : Type 0
 SamplesMean =
     (t : Samples) → (sampleAt t Local ≡ t .local) × (sampleAt t Remote ≡ t .remote) × (brokenAt t Local ≡ false) × (brokenAt t Remote ≡ t .broken)
+
+-- document 02, item 3: "a conversion with the diode open .. compares only the local channel"; any other compares both
+abbrev pub ComparedMeans : Type 0
+ComparedMeans =
+    (t : Samples) → (comparedIn t Local ≡ true) × (t .broken ≡ true → comparedIn t Remote ≡ false) × (t .broken ≡ false → comparedIn t Remote ≡ true)
 
 -- "A fresh state is made for address 76 or 77; any other address is code 2"
 pub record Makes : Type 0 where

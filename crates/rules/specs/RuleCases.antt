@@ -4,6 +4,7 @@ use mathlib.Core.Path.{_≡_}
 use mathlib.Core.Bool.{true}
 use mathlib.Core.List.{List, [], _∷_}
 use Prim.Native.Nat.{ℕ}
+use lib.IntN.{ℤ}
 use lib.IntN.ℤ.{pos, negsuc}
 use Rattle.rules.specs.declared.event.Numbers.{Numbers}
 use Rattle.rules.specs.declared.register.Channel.{Channel}
@@ -22,6 +23,10 @@ good later = convert (pos 20) (pos 200) later
 
 abbrev hot : List Numbers → List Numbers
 hot later = convert (pos 20) (pos 341) later
+
+-- one that ends with the diode open
+abbrev opened : ℤ → ℤ → List Numbers → List Numbers
+opened local remote later = start ∷ end local remote 1 ∷ later
 
 abbrev highTherm : Numbers
 highTherm = write 0x19 0x7f
@@ -75,11 +80,34 @@ ruleRows =
     row (answered (write 0x11 0xe7 ∷ convert (pos 20) (pos 600) (read 0x01 ∷ []))) (0 ∷ 125 ∷ 0 ∷ 0 ∷ []) ∷
     -- a range change alters no stored value
     row (answered (good (write 0x09 4 ∷ read 0x01 ∷ []))) (0 ∷ 50 ∷ 1 ∷ 1 ∷ []) ∷
-    -- the open diode: its flag and the latch, whatever number is needed; the value is stored and compared
-    row (answered (write 0x22 0x0f ∷ start ∷ end (pos 20) (pos 200) 1 ∷ status ∷ [])) (0 ∷ 4 ∷ 0 ∷ 1 ∷ []) ∷
-    row (answered (highTherm ∷ start ∷ end (pos 20) (pos 341) 1 ∷ status ∷ [])) (0 ∷ 20 ∷ 0 ∷ 1 ∷ []) ∷
-    row (answered (start ∷ end (pos 20) (pos 200) 1 ∷ write 0x09 64 ∷ write 0x0d 60 ∷ status ∷ status ∷ [])) (0 ∷ 4 ∷ 0 ∷ 1 ∷ []) ∷
-    row (answered (start ∷ end (pos 20) (pos 200) 1 ∷ good (status ∷ status ∷ []))) (0 ∷ 0 ∷ 0 ∷ 1 ∷ []) ∷
+    -- the open diode: its flag and the latch, whatever number is needed; till a conversion finds it closed and the status is read
+    row (answered (write 0x22 0x0f ∷ opened (pos 20) (pos 200) (status ∷ []))) (0 ∷ 4 ∷ 0 ∷ 1 ∷ []) ∷
+    row (answered (opened (pos 20) (pos 200) (write 0x09 64 ∷ write 0x0d 60 ∷ status ∷ status ∷ []))) (0 ∷ 4 ∷ 0 ∷ 1 ∷ []) ∷
+    row (answered (opened (pos 20) (pos 200) (good (status ∷ status ∷ [])))) (0 ∷ 0 ∷ 0 ∷ 1 ∷ []) ∷
+    -- the local channel is stored and compared
+    row (answered (opened (pos 86) (pos 200) (status ∷ []))) (0 ∷ 69 ∷ 0 ∷ 0 ∷ []) ∷
+    row (answered (opened (pos 86) (pos 200) (read 0x00 ∷ []))) (0 ∷ 86 ∷ 0 ∷ 0 ∷ []) ∷
+    -- the remote value stands, from power-on too: high byte and low byte
+    row (answered (convert (pos 20) (pos 201) (opened (pos 20) (pos 342) (read 0x01 ∷ [])))) (0 ∷ 50 ∷ 0 ∷ 1 ∷ []) ∷
+    row (answered (convert (pos 20) (pos 201) (opened (pos 20) (pos 342) (read 0x10 ∷ [])))) (0 ∷ 0x40 ∷ 0 ∷ 1 ∷ []) ∷
+    row (answered (opened (pos 20) (pos 341) (read 0x01 ∷ []))) (0 ∷ 0 ∷ 0 ∷ 1 ∷ []) ∷
+    row (answered (opened (pos 20) (pos 341) (read 0x10 ∷ []))) (0 ∷ 0 ∷ 0 ∷ 1 ∷ []) ∷
+    -- its THERM flag too, neither set nor cleared
+    row (answered (good (opened (pos 20) (pos 341) (status ∷ [])))) (0 ∷ 4 ∷ 0 ∷ 1 ∷ []) ∷
+    row (answered (convert (pos 20) (pos 341) (opened (pos 20) (pos 100) (status ∷ [])))) (0 ∷ 22 ∷ 0 ∷ 0 ∷ []) ∷
+    -- its latest limit verdicts too: one that found the fault keeps the flag at a status read, one that found none clears it
+    row (answered (highTherm ∷ hot (opened (pos 20) (pos 200) (status ∷ status ∷ [])))) (0 ∷ 20 ∷ 0 ∷ 1 ∷ []) ∷
+    row (answered (convert (pos 20) (pos 0) (opened (pos 20) (pos 200) (status ∷ status ∷ [])))) (0 ∷ 12 ∷ 0 ∷ 1 ∷ []) ∷
+    row (answered (highTherm ∷ hot (good (opened (pos 20) (pos 341) (status ∷ status ∷ []))))) (0 ∷ 4 ∷ 0 ∷ 1 ∷ []) ∷
+    row (answered (convert (pos 20) (pos 0) (good (opened (pos 20) (pos 0) (status ∷ status ∷ []))))) (0 ∷ 4 ∷ 0 ∷ 1 ∷ []) ∷
+    -- it is no conversion of the remote channel, so that a standby write compares none; an earlier one still counts, with its value
+    row (answered (opened (pos 20) (pos 200) (write 0x09 64 ∷ write 0x0e 16 ∷ status ∷ []))) (0 ∷ 4 ∷ 0 ∷ 1 ∷ []) ∷
+    row (answered (good (opened (pos 20) (pos 100) (write 0x09 64 ∷ write 0x0d 40 ∷ status ∷ [])))) (0 ∷ 20 ∷ 0 ∷ 1 ∷ []) ∷
+    row (answered (good (opened (pos 20) (pos 300) (write 0x09 64 ∷ write 0x0d 60 ∷ status ∷ [])))) (0 ∷ 4 ∷ 0 ∷ 1 ∷ []) ∷
+    -- the run count: the remote fault of before is not found again, so of three that are needed the last is the second
+    row (answered (highTherm ∷ write 0x22 0x07 ∷ hot (opened (pos 20) (pos 341) (hot (write 0x09 64 ∷ write 0x0d 0x7f ∷ status ∷ respond ∷ write 0x09 0 ∷ write 0x0d 0x55 ∷ hot []))))) (0 ∷ 0 ∷ 1 ∷ 1 ∷ []) ∷
+    -- a local fault is: here the last is the third
+    row (answered (write 0x22 0x07 ∷ write 0x0b 15 ∷ opened (pos 20) (pos 200) (good (write 0x09 64 ∷ write 0x0b 85 ∷ status ∷ respond ∷ write 0x09 0 ∷ write 0x0b 15 ∷ good [])))) (0 ∷ 0 ∷ 0 ∷ 1 ∷ []) ∷
     -- bits 7 and 5: ALERT is high, and the latch is kept
     row (answered (highTherm ∷ hot (write 0x09 128 ∷ []))) (0 ∷ 0 ∷ 1 ∷ 1 ∷ []) ∷
     row (answered (highTherm ∷ hot (write 0x09 32 ∷ respond ∷ []))) (3 ∷ 0 ∷ 1 ∷ 1 ∷ []) ∷

@@ -6,15 +6,19 @@ use Rattle.rules.specs.declared.register.Target.{Target}
 use Rattle.rules.specs.declared.register.Target.the-variants.{Stored, OneShot, Nowhere}
 use Rattle.rules.specs.declared.state.State.{State}
 use Rattle.rules.specs.Commands.{targetOf}
-use Rattle.rules.specs.Comparisons.{limitsOf, recomparedOf}
+use Rattle.rules.specs.Channels.{anyChannel}
+use Rattle.rules.specs.Comparisons.{faultOf, limitsOf, recomparedOf}
 use Rattle.rules.specs.Configuration.{standby}
-use Rattle.rules.specs.Conversion.{anyFault}
 use Rattle.rules.specs.Rows.{rowOf, trimOf}
-use Rattle.rules.specs.State.{eachChannel, storedOf, withBusy, withLatch, withPointer, withStored}
+use Rattle.rules.specs.State.{channelAt, eachChannel, storedOf, withBusy, withLatch, withPointer, withStored}
 
 -- "compares each channel converted since power-on, at once"
 abbrev pub allRecompared : State → State
 allRecompared s = eachChannel (λ ch. recomparedOf (limitsOf (storedOf s) ch)) s
+
+-- a limit fault of any channel
+abbrev pub anyFault : State → Bool
+anyFault s = anyChannel (λ ch. faultOf (channelAt s ch))
 
 -- "by a standby comparison that finds any limit fault (house: whatever the count)"
 abbrev pub latchedByFaults : State → State

@@ -10,8 +10,9 @@ use Rattle.change.proofs.convert.converted.Tie as tie
 returns : tie.Need-returns
 unfolding converted
 returns c =
-    let run = c .before .run-counted .ensures ∙ ap counted (c .before .before .all-converted .ensures) in
-    let after = c .latched .ensures ∙ ap (latchedByConversion (c .before .before .before .args .t)) run in
+    let t = c .before .before .before .args .t in
+    let run = c .before .run-counted .ensures ∙ ap (counted t) (c .before .before .all-converted .ensures) in
+    let after = c .latched .ensures ∙ ap (latchedByConversion t) run in
     ap (λ (s : State). withBusy s false) after
 
 pub converted-spec : {M : Type 1} → statement M

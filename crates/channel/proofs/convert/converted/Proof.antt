@@ -5,7 +5,7 @@ use Rattle.channel.proofs.convert.converted.Tie as tie
 
 returns : tie.Need-returns
 unfolding convertedOf
-returns c = rw (c .checked .ensures, c .before .compared .ensures, c .before .before .measured .ensures)
+returns c = rw (c .checked .ensures, c .before .taken .ensures)
 
 pub converted-spec : {M : Type 1} → statement M
-converted-spec = tie.close (tie.spec (λ c κs. tt) (λ c κs. tt) (λ c κs. tt) returns)
+converted-spec = tie.close (tie.spec (λ c κs. tt) (λ c κs. tt) returns)
