@@ -220,14 +220,31 @@ static void store_remote(second_chip *chip, int32_t measured)
     chip->converted |= REMOTE;
 }
 
+/* Counts what an open diode holds back, as it stands before the conversion ends. */
+static void count_held_back(const second_chip *chip)
+{
+    SECOND_SEEN(converted_open);
+    if ((chip->converted & REMOTE) == 0)
+        SECOND_SEEN(held_unconverted);
+    if ((chip->found & (REMOTE_HIGH_FLAG | REMOTE_LOW_FLAG)) != 0)
+        SECOND_SEEN(held_fault);
+    if ((chip->reg[STATUS] & REMOTE_THERM_FLAG) != 0)
+        SECOND_SEEN(held_therm);
+}
+
+/* An open diode holds the remote channel back: no sample of it is stored, nothing of it compared, so its value,
+   verdicts, THERM flag and mark stand as they were, and only local faults are found for the run count. */
 static void end_conversion(second_chip *chip, int32_t local, int32_t remote, bool open)
 {
     int needed = needed_number(chip);
 
+    if (open)
+        count_held_back(chip);
     drop_status(chip, BUSY);
     store_local(chip, local);
-    store_remote(chip, remote);
-    int faults = compare(chip, LOCAL | REMOTE);
+    if (!open)
+        store_remote(chip, remote);
+    int faults = compare(chip, open ? LOCAL : LOCAL | REMOTE);
     note_faults(chip, OPEN_FLAG, open ? OPEN_FLAG : 0);
 
     chip->run = (uint8_t)(faults != 0 ? clamp(chip->run + 1, 0, MOST_RUN) : 0);
@@ -243,8 +260,6 @@ static void end_conversion(second_chip *chip, int32_t local, int32_t remote, boo
         SECOND_SEEN(converted_extended);
     else
         SECOND_SEEN(converted_default);
-    if (open)
-        SECOND_SEEN(converted_open);
     SECOND_SEEN(converted_needed[needed - 1]);
 }
 
@@ -275,6 +290,8 @@ static void compare_in_standby(second_chip *chip)
 
     if (chip->converted != 0)
         SECOND_SEEN(standby_compares);
+    if (chip->converted == LOCAL)
+        SECOND_SEEN(standby_local_only);
     if (faults != 0) {
         if (!chip->alert_latch)
             SECOND_SEEN(latch_by_standby);

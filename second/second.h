@@ -1,6 +1,7 @@
 /*
  * second.h - an independent second model of one ADT7461, written from
- * document 01 alone and compared byte by byte with the first one.
+ * document 01, with document 02's Item 3 in place of its line on the open
+ * diode, alone and compared byte by byte with the first one.
  *
  * The chip is a file of byte registers, as the part has them, and a few
  * latches and marks. Nothing is allocated; a chip may be copied with =.
@@ -46,7 +47,8 @@ struct second_chip {
     uint8_t pointer;               /* address pointer, any command */
     uint8_t found;                 /* bits as in status, 6..2: the latest comparison (for bit 2
                                       the latest diode check) found that fault */
-    uint8_t converted;             /* channels converted since power-on: bit 0 local, bit 1 remote */
+    uint8_t converted;             /* channels converted since power-on: bit 0 local, bit 1 remote,
+                                      which a conversion with the diode open does not convert */
     uint8_t run;                   /* run count 0..4 */
     uint8_t alert_latch;           /* 1: the ALERT latch is set */
 };
@@ -116,6 +118,11 @@ struct second_seen {
     uint64_t one_shots;           /* one-shot writes that started a conversion */
     uint64_t converted_open;      /* conversions ended with the diode open */
     uint64_t converted_needed[4]; /* conversions ended while the needed number was 1, 2, 3, 4 */
+    /* Of the conversions ended with the diode open, those that held back ... */
+    uint64_t held_unconverted;    /* a remote channel not converted since power-on */
+    uint64_t held_fault;          /* a latest remote limit verdict of fault */
+    uint64_t held_therm;          /* a remote THERM flag that stood */
+    uint64_t standby_local_only;  /* limit writes in standby that compared the local channel alone */
 };
 extern second_seen second_seen_counts;
 

@@ -158,11 +158,15 @@ static int32_t offset(const history_record *r)
     return quarters(r, OFFSET, OFFSET_LOW_BYTE) - (r->written[OFFSET] > 127 ? 4 * 256 : 0);
 }
 
-static void measure(history_record *r, int32_t local, int32_t remote)
+static void measure_local(history_record *r, int32_t sample)
 {
-    bool extended = configured(r, EXTENDED);
-    r->local = extended ? clamped(local + 64, 255) : clamped(local, 127);
-    r->remote = extended ? clamped(remote + offset(r) + 256, 1023) : clamped(remote + offset(r), 511);
+    r->local = configured(r, EXTENDED) ? clamped(sample + 64, 255) : clamped(sample, 127);
+}
+
+static void measure_remote(history_record *r, int32_t sample)
+{
+    int32_t sum = sample + offset(r);
+    r->remote = configured(r, EXTENDED) ? clamped(sum + 256, 1023) : clamped(sum, 511);
 }
 
 /* "1 plus the ones that stand together from bit 1 upwards within bits 3 to 1 of register 22" */
@@ -237,21 +241,34 @@ static bool is_done(const second_history *h, int32_t kind, int32_t a)
     }
 }
 
-static void compare(const history_record *r, history_moment *m)
+static void compare_local(const history_record *r, history_moment *m)
 {
     m->was[HISTORY_LOCAL_HIGH] = r->local > r->written[LOCAL_HIGH] ? HISTORY_FAULT : HISTORY_NO_FAULT;
     m->was[HISTORY_LOCAL_LOW] = r->local <= r->written[LOCAL_LOW] ? HISTORY_FAULT : HISTORY_NO_FAULT;
+}
+
+static void compare_remote(const history_record *r, history_moment *m)
+{
     m->was[HISTORY_REMOTE_HIGH] =
         r->remote > quarters(r, REMOTE_HIGH, REMOTE_HIGH_LOW_BYTE) ? HISTORY_FAULT : HISTORY_NO_FAULT;
     m->was[HISTORY_REMOTE_LOW] =
         r->remote <= quarters(r, REMOTE_LOW, REMOTE_LOW_LOW_BYTE) ? HISTORY_FAULT : HISTORY_NO_FAULT;
 }
 
-/* Whether the channels were converted since power-on: each conversion that ends converts both. */
-static bool converted(const second_history *h)
+/* Whether the local channel was converted since power-on: each conversion that ends converts it. */
+static bool local_converted(const second_history *h)
 {
     for (size_t i = h->length; i-- > 0;)
         if (h->list[i].kind == END)
+            return true;
+    return false;
+}
+
+/* The same of the remote channel, for which one with the diode open "doesn't count as a conversion". */
+static bool remote_converted(const second_history *h)
+{
+    for (size_t i = h->length; i-- > 0;)
+        if (h->list[i].kind == END && h->list[i].was[HISTORY_OPEN] == HISTORY_NO_FAULT)
             return true;
     return false;
 }
@@ -288,8 +305,10 @@ static void write_byte(second_history *h, int32_t command, uint8_t data, history
     case HYSTERESIS:
         r->written[command] =
             command == REMOTE_HIGH_LOW_BYTE || command == REMOTE_LOW_LOW_BYTE ? data & 0xC0 : data;
-        if (configured(r, STANDBY) && converted(h))
-            compare(r, m);
+        if (configured(r, STANDBY) && local_converted(h))
+            compare_local(r, m);
+        if (configured(r, STANDBY) && remote_converted(h))
+            compare_remote(r, m);
         break;
     default:
         break;
@@ -324,9 +343,13 @@ static history_moment happen(second_history *h, int32_t kind, int32_t a, int32_t
         break;
     case END:
         r->running = false;
-        measure(r, a, b);
-        compare(r, &m);
+        measure_local(r, a);
+        compare_local(r, &m);
         m.was[HISTORY_OPEN] = c == 1 ? HISTORY_FAULT : HISTORY_NO_FAULT;
+        if (c == 0) {
+            measure_remote(r, b);
+            compare_remote(r, &m);
+        }
         m.needed = needed(r);
         break;
     default:

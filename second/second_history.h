@@ -4,7 +4,7 @@
  * A history is told every event and its answer. It keeps what was written and measured, and a list of
  * what each event since the latest power-on was for each latched flag. Whether a flag or the ALERT latch
  * stands is kept nowhere: the functions below look back over the list, each in the demand's words. It is
- * written from document 01 and the demand, and takes nothing from a model but the answers.
+ * written from document 01, document 02's Item 3 and the demand, and takes nothing from a model but the answers.
  */
 #ifndef SECOND_HISTORY_H
 #define SECOND_HISTORY_H
@@ -19,7 +19,8 @@ enum {
     HISTORY_FLAGS
 };
 
-/* What an event was for one flag. For the open flag the comparison is the diode check. */
+/* What an event was for one flag. For the open flag the comparison is the diode check. To the remote flags a
+   conversion with the diode open is no comparison: the one before it stays the latest. */
 enum {
     HISTORY_NOTHING,        /* made no comparison, read no status */
     HISTORY_NO_FAULT,       /* its comparison found no fault */
@@ -39,7 +40,7 @@ enum { HISTORY_REFUSED = 255 };
 /* What was written and measured. */
 typedef struct {
     int32_t address;
-    int32_t local, remote;          /* the values, as codes */
+    int32_t local, remote;          /* the values, as codes; remote the last good one */
     uint8_t written[0x23];          /* bytes as written and kept, by WRITE command */
     uint8_t pointer;
     bool running;                   /* a conversion runs */
@@ -116,7 +117,8 @@ uint64_t history_spells_opened(const second_history *h, int flag, size_t n);
 /* "the clearing reads that showed 1" */
 uint64_t history_clearing_reads_showing_1(const second_history *h, int flag, size_t n);
 
-/* "completed conversions in a row in which any of the four limit faults was found, held at 4" */
+/* "completed conversions in a row in which any of the four limit faults was found, held at 4"; with the diode
+   open it "looks at local faults only in that conversion", which made no other comparison */
 int history_in_a_row(const second_history *h, size_t n);
 
 /* "something that sets it": a kind 7 with the diode open, a kind 7 after which the run count is at least the

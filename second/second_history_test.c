@@ -1,6 +1,6 @@
 /*
- * second_history_test.c - tests of the history, on answers worked out by hand from document 01.
- * No model is asked. At every event wrong answers are tried as well: their claim must not hold.
+ * second_history_test.c - tests of the history, on answers worked out by hand from document 01 and document 02's
+ * Item 3. No model is asked. At every event wrong answers are tried as well: their claim must not hold.
  */
 #include "second_history.h"
 #include "second_test.h"
@@ -129,7 +129,8 @@ static void test_gone_and_read(void)
     CHECK(history_latest_comparison(&h, FLAG, 4) == HISTORY_FAULT);
     CHECK(history_latest_comparison(&h, FLAG, 8) == HISTORY_NO_FAULT);
     CHECK(!history_clearing_read(&h, FLAG, 2) && !history_clearing_read(&h, FLAG, 3));
-    CHECK(!history_clearing_read(&h, FLAG, 5) && history_clearing_read(&h, FLAG, 6) && history_clearing_read(&h, FLAG, 7));
+    CHECK(!history_clearing_read(&h, FLAG, 5));
+    CHECK(history_clearing_read(&h, FLAG, 6) && history_clearing_read(&h, FLAG, 7));
     CHECK(history_opens_spell(&h, FLAG, 1) && !history_opens_spell(&h, FLAG, 5));
     CHECK(!history_stands(&h, FLAG, 1) && history_stands(&h, FLAG, 2) && history_stands(&h, FLAG, 6));
     CHECK(history_sets_latch(&h, 1) == HISTORY_BY_RUN && history_sets_latch(&h, 5) == 0);
@@ -137,7 +138,8 @@ static void test_gone_and_read(void)
     TAKE(5, 0, 0, 0, 0, 153, 1);
     CHECK(!latch_stands() && history_clears_latch(&h, 8));
     TAKE(5, 0, 0, 0, 3, 0, 1);
-    CHECK(counts.claims[HISTORY_STATUS] == 4 && counts.claims[HISTORY_ALERT] == 10 && counts.claims[HISTORY_SPELLS] == 10);
+    CHECK(counts.claims[HISTORY_STATUS] == 4);
+    CHECK(counts.claims[HISTORY_ALERT] == 10 && counts.claims[HISTORY_SPELLS] == 10);
     CHECK(counts.claims[HISTORY_RESPONSE] == 2 && counts.claims[HISTORY_UNCHANGED] == 1);
     CHECK(counts.spells[FLAG] == 1 && counts.cleared[FLAG] == 1 && counts.still[FLAG] == 2);
     CHECK(counts.by_run == 1 && counts.by_open == 0 && counts.by_standby == 0 && counts.latch_cleared == 1);
@@ -180,9 +182,9 @@ static void test_open_in_standby(void)
     CHECK(flag_is(HISTORY_OPEN, 1, 0, true) && history_sets_latch(&h, 1) == HISTORY_BY_OPEN);
     WRITE(0x09, 0x40, 0);
     STATUS_READ(0x04, 0);
-    WRITE(0x0B, 0x50, 0);                           /* compares both channels, not the diode */
+    WRITE(0x0B, 0x50, 0);                           /* compares the one channel converted, and not the diode */
     CHECK(list[4].was[HISTORY_OPEN] == HISTORY_NOTHING && list[4].was[HISTORY_LOCAL_HIGH] == HISTORY_NO_FAULT);
-    CHECK(list[4].was[HISTORY_REMOTE_LOW] == HISTORY_NO_FAULT && history_sets_latch(&h, 4) == 0);
+    CHECK(list[4].was[HISTORY_REMOTE_LOW] == HISTORY_NOTHING && history_sets_latch(&h, 4) == 0);
     STATUS_READ(0x04, 0);
     CHECK(flag_is(HISTORY_OPEN, 1, 0, true));
     TAKE(5, 0, 0, 0, 0, 153, 0);
@@ -193,6 +195,145 @@ static void test_open_in_standby(void)
     TAKE(5, 0, 0, 0, 0, 153, 1);
     CHECK(counts.by_open == 1 && counts.still[HISTORY_OPEN] == 2 && counts.latch_cleared == 1 && counts.answered == 2);
     CHECK(history_end(&h) == 0);
+}
+
+static bool latest_is(int flag, int verdict)
+{
+    return history_latest_comparison(&h, flag, h.length) == verdict;
+}
+
+/* What the event told last was for the high and the low flag of a channel. */
+static bool remote_was(int high, int low)
+{
+    const history_moment *m = &list[h.length - 1];
+    return m->was[HISTORY_REMOTE_HIGH] == high && m->was[HISTORY_REMOTE_LOW] == low;
+}
+
+static bool local_was(int high, int low)
+{
+    const history_moment *m = &list[h.length - 1];
+    return m->was[HISTORY_LOCAL_HIGH] == high && m->was[HISTORY_LOCAL_LOW] == low;
+}
+
+/* "stores and compares only the local channel, and ... the latest remote limit verdicts stand as they were" */
+static void test_held_back(bool standby)
+{
+    enum { NOTHING = HISTORY_NOTHING, NO_FAULT = HISTORY_NO_FAULT, FAULT = HISTORY_FAULT };
+
+    /* a first one: no comparison was made, though remote 0 is at the low limit */
+    begin(76);
+    WRITE(0x09, standby ? 0x40 : 0x00, 1);
+    convert_at(__LINE__, standby, 20, 0, 1, 1, 0);
+    CHECK(remote_was(NOTHING, NOTHING) && local_was(NO_FAULT, NO_FAULT) && latest_is(HISTORY_OPEN, FAULT));
+    CHECK(latest_is(HISTORY_REMOTE_HIGH, NOTHING) && latest_is(HISTORY_REMOTE_LOW, NOTHING) && h.record.remote == 0);
+    STATUS_READ(0x04, 0);
+    STATUS_READ(0x04, 0);
+
+    /* a verdict of fault stands through it, and the flag through status reads */
+    convert_at(__LINE__, standby, 20, 341, 0, 0, 0);
+    CHECK(remote_was(FAULT, NO_FAULT) && flag_is(HISTORY_REMOTE_HIGH, 1, 0, true));
+    convert_at(__LINE__, standby, 21, 0, 1, 0, 0);
+    CHECK(remote_was(NOTHING, NOTHING) && h.record.remote == 341 && h.record.local == 21);
+    CHECK(latest_is(HISTORY_REMOTE_HIGH, FAULT) && latest_is(HISTORY_REMOTE_LOW, NO_FAULT));
+    STATUS_READ(0x14, 0);
+    STATUS_READ(0x14, 0);
+    CHECK(flag_is(HISTORY_REMOTE_HIGH, 1, 0, true) && flag_is(HISTORY_REMOTE_LOW, 0, 0, false));
+
+    /* one of no fault lets the next status read clear the flag, whatever the sample */
+    convert_at(__LINE__, standby, 20, 200, 0, 0, 0);
+    convert_at(__LINE__, standby, 20, 341, 1, 0, 0);
+    CHECK(flag_is(HISTORY_REMOTE_HIGH, 1, 0, true) && latest_is(HISTORY_REMOTE_HIGH, NO_FAULT));
+    STATUS_READ(0x14, 0);
+    CHECK(flag_is(HISTORY_REMOTE_HIGH, 1, 1, false) && flag_is(HISTORY_OPEN, 1, 0, true));
+    STATUS_READ(0x04, 0);
+
+    /* the local channel is compared as always, and its flags come and go */
+    convert_at(__LINE__, standby, 86, 200, 1, 0, 0);
+    CHECK(local_was(FAULT, NO_FAULT) && flag_is(HISTORY_LOCAL_HIGH, 1, 0, true));
+    convert_at(__LINE__, standby, 0, 200, 1, 0, 0);
+    CHECK(local_was(NO_FAULT, FAULT) && flag_is(HISTORY_LOCAL_LOW, 1, 0, true));
+    STATUS_READ(0x64, 0);
+    STATUS_READ(0x24, 0);
+
+    /* the diode is checked by each */
+    convert_at(__LINE__, standby, 20, 200, 0, 0, 0);
+    CHECK(latest_is(HISTORY_OPEN, NO_FAULT) && flag_is(HISTORY_OPEN, 1, 0, true));
+    STATUS_READ(0x24, 0);
+    CHECK(flag_is(HISTORY_OPEN, 1, 1, false));
+    TAKE(5, 0, 0, 0, 0, 153, 1);
+    convert_at(__LINE__, standby, 20, 200, 1, 1, 0);
+    CHECK(flag_is(HISTORY_OPEN, 2, 1, true) && counts.by_open == 2 && counts.by_run == 0);
+    CHECK(history_end(&h) == 0);
+}
+
+/* "For the remote channel it doesn't count as a conversion; earlier ones still do." */
+static void test_held_back_and_limits(void)
+{
+    enum { NOTHING = HISTORY_NOTHING, NO_FAULT = HISTORY_NO_FAULT, FAULT = HISTORY_FAULT };
+
+    begin(76);
+    WRITE(0x09, 0x40, 1);
+    ONE_SHOT(20, 200, 1, 1, 0);
+    WRITE(0x0E, 0x10, 0);                           /* remote 0 is under it, and not compared */
+    CHECK(remote_was(NOTHING, NOTHING) && local_was(NO_FAULT, NO_FAULT) && history_sets_latch(&h, h.length - 1) == 0);
+    WRITE(0x0B, 19, 0);
+    CHECK(remote_was(NOTHING, NOTHING) && local_was(FAULT, NO_FAULT));
+    CHECK(history_sets_latch(&h, h.length - 1) == HISTORY_BY_STANDBY);
+    WRITE(0x0B, 20, 0);
+    ONE_SHOT(20, 200, 0, 0, 0);
+    ONE_SHOT(20, 400, 1, 0, 0);
+    ONE_SHOT(20, 400, 1, 0, 0);
+    CHECK(latest_is(HISTORY_REMOTE_HIGH, NO_FAULT));
+    WRITE(0x0D, 50, 0);                             /* the last good one, 200: at the limit */
+    CHECK(remote_was(NO_FAULT, NO_FAULT));
+    WRITE(0x0D, 49, 0);
+    CHECK(remote_was(FAULT, NO_FAULT) && history_sets_latch(&h, h.length - 1) == HISTORY_BY_STANDBY);
+    ONE_SHOT(20, 100, 1, 0, 0);                     /* that verdict stands too */
+    STATUS_READ(0x54, 0);
+    STATUS_READ(0x14, 0);
+    TAKE(0, 0, 0, 0, 0, 0, 1);                      /* earlier than the power-on: none */
+    TAKE(6, 0, 0, 0, 0, 0, 1);
+    TAKE(7, 20, 200, 1, 0, 0, 0);
+    WRITE(0x09, 0x40, 0);
+    WRITE(0x0E, 0x10, 0);
+    CHECK(remote_was(NOTHING, NOTHING) && local_was(NO_FAULT, NO_FAULT));
+    STATUS_READ(0x04, 0);
+}
+
+/* "The run count looks at local faults only in that conversion." The second half sees it at the line: there limits
+   moved in standby and an alert response have let it go, and the row alone can draw it low again. */
+static void test_held_back_in_a_row(void)
+{
+    begin(76);
+    WRITE(0x22, 0x07, 1);
+    CONVERT(20, 341, 0, 1, 1);
+    CONVERT(86, 100, 1, 1, 0);                      /* a local fault: the row goes on */
+    CHECK(history_in_a_row(&h, h.length) == 2 && history_sets_latch(&h, h.length - 1) == HISTORY_BY_OPEN);
+    CONVERT(0, 100, 1, 0, 0);
+    CHECK(history_in_a_row(&h, h.length) == 3);
+    CHECK(history_sets_latch(&h, h.length - 1) == (HISTORY_BY_OPEN | HISTORY_BY_RUN));
+    CONVERT(20, 341, 1, 0, 0);                      /* none: broken, though the remote verdict is a fault */
+    CHECK(history_in_a_row(&h, h.length) == 0 && history_sets_latch(&h, h.length - 1) == HISTORY_BY_OPEN);
+    CHECK(latest_is(HISTORY_REMOTE_HIGH, HISTORY_FAULT));
+    CONVERT(20, 341, 0, 0, 0);
+    CHECK(history_in_a_row(&h, h.length) == 1 && history_sets_latch(&h, h.length - 1) == 0);
+
+    static const struct { int32_t local; int row, alert; } rows[] = { {20, 2, 1}, {86, 4, 0} };
+    for (int i = 0; i < 2; i++) {
+        begin(76);
+        WRITE(0x22, 0x07, 1);
+        CONVERT(20, 341, 0, 1, 1);
+        CONVERT(rows[i].local, 341, 1, 1, 0);
+        CONVERT(20, 341, 0, 0, 0);
+        WRITE(0x09, 0x40, 0);
+        WRITE(0x0D, 0x7F, 0);
+        STATUS_READ(rows[i].local == 86 ? 0x54 : 0x14, 0);
+        TAKE(5, 0, 0, 0, 0, 153, 1);
+        WRITE(0x09, 0x00, 1);
+        WRITE(0x0D, 0x55, 1);
+        CONVERT(20, 341, 0, 1, rows[i].alert);
+        CHECK(history_in_a_row(&h, h.length) == rows[i].row);
+    }
 }
 
 static void test_reset(void)
@@ -247,7 +388,8 @@ static void test_in_a_row(void)
     CONVERT(20, 100, 1, 0, 0);                      /* an open diode is no limit fault */
     CHECK(history_in_a_row(&h, h.length) == 0 && history_sets_latch(&h, h.length - 1) == HISTORY_BY_OPEN);
 
-    static const struct { int reg, needed; } k10[] = { {0x01, 1}, {0x03, 2}, {0x07, 3}, {0x0F, 4}, {0x05, 1}, {0x0B, 2} };
+    static const struct { int reg, needed; } k10[] = {
+        {0x01, 1}, {0x03, 2}, {0x07, 3}, {0x0F, 4}, {0x05, 1}, {0x0B, 2} };
     for (size_t i = 0; i < sizeof k10 / sizeof *k10; i++) {
         begin(76);
         WRITE(0x22, k10[i].reg, 1);
@@ -388,6 +530,10 @@ void test_history(void)
     test_gone_and_read();
     test_two_spells();
     test_open_in_standby();
+    test_held_back(false);
+    test_held_back(true);
+    test_held_back_and_limits();
+    test_held_back_in_a_row();
     test_reset();
     test_in_a_row();
     test_response_with_flag();

@@ -1,4 +1,4 @@
-/* second_test.c - tests from document 01's cases and rules; expected values are from the document. */
+/* second_test.c - tests from document 01's cases and rules and document 02's Item 3, with the values they expect. */
 #include "second.h"
 #include "second_history.h"
 #include "second_test.h"
@@ -57,9 +57,10 @@ static second_answer writing(second_chip *chip, int command, int data)
     return second_step(chip, 2, chip->address, command, data);
 }
 
+/* The start is a kind 6, or in standby a one-shot. */
 static second_answer converting(second_chip *chip, int32_t local, int32_t remote, int32_t open)
 {
-    (void)second_step(chip, 6, 0, 0, 0);
+    (void)(chip->reg[0x03] & 0x40 ? writing(chip, 0x0F, 0) : second_step(chip, 6, 0, 0, 0));
     return second_step(chip, 7, local, remote, open);
 }
 
@@ -347,7 +348,8 @@ static void test_standby(void)
             if (standby)
                 (void)writing(&chip, 0x09, 0x40);
             chip.reg[0x06] = 20;              /* local low at the value: 20 <= 20 is a fault */
-            second_answer answer = writing(&chip, command, command == 0x0C ? 20 : command == 0x09 ? standby * 0x40 : 0x50);
+            int data = command == 0x0C ? 20 : command == 0x09 ? standby * 0x40 : 0x50;
+            second_answer answer = writing(&chip, command, data);
             CHECK(answer.code == 0 && answer.reply == 0);
             CHECK((answer.alert == 0) == (compares && standby));
             CHECK((chip.reg[0x02] >> 5 & 1) == (compares && standby));
@@ -411,6 +413,7 @@ static void test_status(void)
     CHECK(status(&chip) == 0x08 && status(&chip) == 0x08);
     (void)converting(&chip, 20, 1, 0);
     CHECK(status(&chip) == 0x08 && status(&chip) == 0x00);
+    (void)converting(&chip, 20, 341, 0);
     (void)converting(&chip, 20, 341, 1);
     CHECK(status(&chip) == 0x16 && status(&chip) == 0x16);
     (void)converting(&chip, 0, 0, 0);
@@ -478,13 +481,313 @@ static void test_status(void)
     CHECK(converting(&chip, 20, 341, 0).alert == 0 && chip.run == 4);
     CHECK(converting(&chip, 20, 341, 0).alert == 0 && chip.run == 4);
     CHECK(converting(&chip, 20, 200, 0).alert == 0 && chip.run == 0);
-    /* an open diode sets the latch whatever the count, and is no limit fault */
-    chip = fresh();
+}
+
+/* ---- the open diode: document 02, Item 3 ---- */
+
+/* A chip whose conversions are kinds 6 and 7, or one-shots in standby. */
+static second_chip fresh_in(bool standby)
+{
+    second_chip chip = fresh();
+    (void)writing(&chip, 0x09, standby ? 0x40 : 0);
+    return chip;
+}
+
+/* A limit write that compares nothing, in standby neither. */
+static void write_uncompared(second_chip *chip, int command, int data)
+{
+    int configuration = chip->reg[0x03];
+    (void)writing(chip, 0x09, configuration & ~0x40);
+    (void)writing(chip, command, data);
+    (void)writing(chip, 0x09, configuration);
+}
+
+static int remote_stored(second_chip *chip)
+{
+    int fraction = reading(chip, 0x10);
+    return fraction % 64 != 0 ? -1 : reading(chip, 0x01) * 4 + fraction / 64;
+}
+
+static const int32_t open_samples[] = { -32768, -513, -1, 0, 1, 200, 300, 301, 341, 511, 512, 1023, 32767 };
+enum { OPEN_SAMPLES = sizeof open_samples / sizeof *open_samples };
+
+/* The byte that a limit command would write without changing anything. */
+static int standing_limit(const second_chip *chip, int command)
+{
+    return chip->reg[command <= 0x0E ? command - 6 : command];
+}
+
+/* "stores ... only the local channel, and the remote value ... stand as they were" */
+static void test_open_value(bool standby)
+{
+    for (int i = 0; i < OPEN_SAMPLES; i++) {
+        /* the power-on 0, and no verdict on it: 0 would be a low fault */
+        second_chip chip = fresh_in(standby);
+        second_answer answer = converting(&chip, 20, open_samples[i], 1);
+        CHECK(answer.code == 0 && answer.reply == 0 && answer.alert == 0 && answer.therm == 1);
+        CHECK(remote_stored(&chip) == 0 && reading(&chip, 0x00) == 20 && chip.converted == 1);
+        CHECK(chip.reg[0x02] == 0x04 && chip.found == 0x04 && chip.run == 0);
+        CHECK(status(&chip) == 0x04 && status(&chip) == 0x04);
+        STEP(&chip, 7, 20, 100, 1, 5, 0, 0, 1);              /* it ended */
+
+        /* the last good one, through several */
+        (void)converting(&chip, 30, 201, 0);
+        CHECK(remote_stored(&chip) == 201 && chip.converted == 3);
+        (void)converting(&chip, 31, open_samples[i], 1);
+        CHECK(remote_stored(&chip) == 201 && reading(&chip, 0x00) == 31 && chip.converted == 3);
+        (void)converting(&chip, 32, -open_samples[i] - 1, 1);
+        CHECK(remote_stored(&chip) == 201 && reading(&chip, 0x00) == 32 && chip.converted == 3);
+
+        /* neither offset nor range touch it, the range does the local value */
+        (void)writing(&chip, 0x11, 0x05);
+        (void)writing(&chip, 0x12, 0xC0);
+        (void)writing(&chip, 0x09, standby ? 0x44 : 0x04);
+        (void)converting(&chip, 20, open_samples[i], 1);
+        CHECK(remote_stored(&chip) == 201 && reading(&chip, 0x00) == 84);
+        (void)converting(&chip, 20, 100, 0);
+        CHECK(remote_stored(&chip) == 379 && reading(&chip, 0x00) == 84);
+        (void)converting(&chip, -70, open_samples[i], 1);
+        CHECK(remote_stored(&chip) == 379 && reading(&chip, 0x00) == 0);
+    }
+
+    /* its sample is not used, but has its range */
+    second_chip chip = fresh_in(standby);
+    (void)(standby ? writing(&chip, 0x0F, 0) : second_step(&chip, 6, 0, 0, 0));
+    STEP(&chip, 7, 20, 32768, 1, 2, 0, 1, 1);
+    STEP(&chip, 7, 20, -32769, 1, 2, 0, 1, 1);
+    STEP(&chip, 7, 20, -32768, 1, 0, 0, 0, 1);
+}
+
+/* "the remote value, remote THERM flag ... stand as they were" */
+static void test_open_therm(bool standby)
+{
+    for (int i = 0; i < OPEN_SAMPLES; i++) {
+        second_chip chip = fresh_in(standby);
+        (void)converting(&chip, 20, 200, 0);
+        CHECK(converting(&chip, 20, open_samples[i], 1).therm == 1);
+        (void)converting(&chip, 20, 341, 0);
+        CHECK(converting(&chip, 20, open_samples[i], 1).therm == 0);
+        CHECK(converting(&chip, 20, open_samples[i], 1).therm == 0 && (chip.reg[0x02] & 0x03) == 0x02);
+        CHECK(converting(&chip, 20, 301, 0).therm == 0);
+        CHECK(converting(&chip, 20, 300, 0).therm == 1);
+    }
+    /* nor is the kept value compared: its limits may have moved */
+    second_chip chip = fresh_in(standby);
+    (void)converting(&chip, 20, 200, 0);
+    write_uncompared(&chip, 0x19, 40);
+    CHECK(converting(&chip, 20, 200, 1).therm == 1 && converting(&chip, 20, 200, 0).therm == 0);
+    write_uncompared(&chip, 0x19, 80);
+    CHECK(converting(&chip, 20, 200, 1).therm == 0 && converting(&chip, 20, 200, 0).therm == 1);
+    /* the local flag is worked out as always, beside a remote one that stands */
+    CHECK(converting(&chip, 86, 200, 1).therm == 0 && (chip.reg[0x02] & 0x03) == 0x01);
+    CHECK(converting(&chip, 76, 200, 1).therm == 0 && converting(&chip, 75, 200, 1).therm == 1);
+    (void)converting(&chip, 86, 341, 0);
+    CHECK(converting(&chip, 75, 200, 1).therm == 0 && (chip.reg[0x02] & 0x03) == 0x02);
+}
+
+/* "the latest remote limit verdicts stand as they were" */
+static void test_open_verdicts(bool standby)
+{
+    for (int i = 0; i < OPEN_SAMPLES; i++) {
+        /* found: the flag stays through status reads, until a good conversion finds otherwise */
+        second_chip chip = fresh_in(standby);
+        (void)converting(&chip, 20, 341, 0);
+        (void)converting(&chip, 20, open_samples[i], 1);
+        CHECK(chip.reg[0x02] == 0x16 && chip.found == 0x14);
+        CHECK(status(&chip) == 0x16 && status(&chip) == 0x16);
+        (void)converting(&chip, 20, open_samples[i], 1);
+        CHECK(status(&chip) == 0x16 && status(&chip) == 0x16);
+        (void)converting(&chip, 20, 300, 0);
+        CHECK(status(&chip) == 0x14 && status(&chip) == 0x00);
+        (void)converting(&chip, 20, 0, 0);
+        (void)converting(&chip, 20, open_samples[i], 1);
+        CHECK(status(&chip) == 0x0C && status(&chip) == 0x0C && chip.found == 0x0C);
+
+        /* not found: the flag that stood before is cleared by the next status read, and not before it */
+        chip = fresh_in(standby);
+        (void)converting(&chip, 20, 341, 0);
+        (void)converting(&chip, 20, 0, 0);
+        (void)converting(&chip, 20, 1, 0);
+        (void)converting(&chip, 20, open_samples[i], 1);
+        CHECK(chip.reg[0x02] == 0x1C && chip.found == 0x04);
+        CHECK(status(&chip) == 0x1C && status(&chip) == 0x04);
+    }
+    /* the kept value is not compared either */
+    second_chip chip = fresh_in(standby);
+    (void)converting(&chip, 20, 200, 0);
+    write_uncompared(&chip, 0x0D, 40);
+    write_uncompared(&chip, 0x0E, 60);
+    (void)converting(&chip, 20, 200, 1);
+    CHECK(status(&chip) == 0x04);
+    (void)converting(&chip, 20, 200, 0);
+    write_uncompared(&chip, 0x0D, 60);
+    write_uncompared(&chip, 0x0E, 40);
+    (void)converting(&chip, 20, 200, 1);
+    CHECK(status(&chip) == 0x1C && status(&chip) == 0x1C);
+    (void)converting(&chip, 20, 200, 0);
+    CHECK(status(&chip) == 0x1C && status(&chip) == 0x00);
+}
+
+/* "sets the open flag and the latch": whatever number is needed, and its check is made */
+static void test_open_flag(bool standby)
+{
+    static const int pattern[] = { 0x01, 0x03, 0x07, 0x0F, 0x05, 0x0B };
+
+    for (int i = 0; i < 6; i++) {
+        second_chip chip = fresh_in(standby);
+        (void)writing(&chip, 0x22, pattern[i]);
+        CHECK(converting(&chip, 20, 200, 1).alert == 0 && chip.alert_latch == 1);
+        CHECK(status(&chip) == 0x04 && status(&chip) == 0x04);
+        STEP(&chip, 5, 0, 0, 0, 0, 153, 0, 1);               /* the flag holds the latch */
+        (void)converting(&chip, 20, 200, 0);
+        CHECK(status(&chip) == 0x04 && status(&chip) == 0x00);
+        STEP(&chip, 5, 0, 0, 0, 0, 153, 1, 1);
+        CHECK(converting(&chip, 20, 200, 1).alert == 0);     /* once more */
+        (void)converting(&chip, 20, 200, 0);
+        (void)converting(&chip, 20, 200, 1);
+        CHECK(status(&chip) == 0x04 && status(&chip) == 0x04);
+    }
+    /* behind a masked line */
+    second_chip chip = fresh_in(standby);
+    (void)writing(&chip, 0x09, standby ? 0xC0 : 0x80);
+    CHECK(converting(&chip, 20, 200, 1).alert == 1 && chip.alert_latch == 1);
+    CHECK(writing(&chip, 0x09, standby ? 0x40 : 0x00).alert == 0);
+}
+
+/* "stores and compares only the local channel": as always */
+static void test_open_local(bool standby)
+{
+    second_chip chip = fresh_in(standby);
+    (void)converting(&chip, 86, 200, 1);
+    CHECK(reading(&chip, 0x00) == 86 && status(&chip) == 0x45 && status(&chip) == 0x45);
+    (void)converting(&chip, 20, 200, 1);
+    CHECK(reading(&chip, 0x00) == 20 && status(&chip) == 0x44 && status(&chip) == 0x04);
+    (void)converting(&chip, 0, 200, 1);
+    CHECK(reading(&chip, 0x00) == 0 && status(&chip) == 0x24 && status(&chip) == 0x24);
+    (void)converting(&chip, 1, 200, 1);
+    CHECK(status(&chip) == 0x24 && status(&chip) == 0x04);
+    (void)converting(&chip, 8191, 200, 1);
+    CHECK(reading(&chip, 0x00) == 127 && status(&chip) == 0x45);
+    (void)converting(&chip, -8192, 200, 1);
+    CHECK(reading(&chip, 0x00) == 0 && status(&chip) == 0x64 && status(&chip) == 0x24);
+}
+
+/* "For the remote channel it doesn't count as a conversion; earlier ones still do." */
+static void test_open_converted(bool standby)
+{
+    static const int limits[] = { 0x0B, 0x0C, 0x0D, 0x0E, 0x13, 0x14, 0x19, 0x20, 0x21 };
+
+    /* no good one: the local channel alone is compared, though the value put there by the back door has a
+       high, a low and a THERM fault */
+    for (size_t i = 0; i < sizeof limits / sizeof *limits; i++) {
+        second_chip chip = fresh_in(standby);
+        (void)converting(&chip, 20, 400, 1);
+        (void)converting(&chip, 20, 400, 1);
+        (void)writing(&chip, 0x09, 0x40);
+        chip.reg[0x01] = 100;
+        chip.reg[0x08] = 100;
+        chip.reg[0x05] = 19;
+        chip.reg[0x20] = 19;
+        chip.alert_latch = 0;
+        STEP(&chip, 2, 76, limits[i], standing_limit(&chip, limits[i]), 0, 0, 0, 0);
+        CHECK(chip.reg[0x02] == 0x45 && chip.found == 0x44);
+        /* the first good one makes it compared, and one with the diode open behind it leaves that */
+        (void)converting(&chip, 20, 400, 0);
+        chip.reg[0x02] = 0;
+        (void)writing(&chip, limits[i], standing_limit(&chip, limits[i]));
+        CHECK(chip.reg[0x02] == 0x5B);
+        (void)converting(&chip, 20, 400, 1);
+        chip.reg[0x02] = 0;
+        (void)writing(&chip, limits[i], standing_limit(&chip, limits[i]));
+        CHECK(chip.reg[0x02] == 0x5B);
+        /* a power-on forgets it */
+        (void)second_step(&chip, 0, 0, 0, 0);
+        (void)converting(&chip, 20, 400, 1);
+        (void)writing(&chip, 0x09, 0x40);
+        (void)writing(&chip, limits[i], 0);
+        CHECK((chip.reg[0x02] & 0x1A) == 0 && chip.converted == 1);
+    }
+
+    /* K12 with a probe pulled: the kept value is compared, and the verdict is a new one */
+    second_chip chip = fresh_in(standby);
+    (void)converting(&chip, 20, 200, 0);
+    (void)converting(&chip, 20, 100, 1);
+    (void)writing(&chip, 0x09, 0x40);
+    chip.alert_latch = 0;
+    STEP(&chip, 2, 76, 0x0D, 50, 0, 0, 1, 1);
+    CHECK(status(&chip) == 0x04);
+    STEP(&chip, 2, 76, 0x0D, 49, 0, 0, 0, 1);
+    CHECK(status(&chip) == 0x14);
+    (void)converting(&chip, 20, 100, 1);
+    CHECK(status(&chip) == 0x14 && status(&chip) == 0x14);
+    (void)writing(&chip, 0x0D, 50);
+    (void)converting(&chip, 20, 400, 1);
+    CHECK(status(&chip) == 0x14 && status(&chip) == 0x04);
+}
+
+/* "The run count looks at local faults only in that conversion." */
+static void test_open_run(bool standby)
+{
+    second_chip chip = fresh_in(standby);
     (void)writing(&chip, 0x22, 0x0F);
-    CHECK(converting(&chip, 20, 200, 1).alert == 0 && chip.run == 0);
-    CHECK(reading(&chip, 0x01) == 50);                   /* stored like any other */
-    CHECK(converting(&chip, 20, 341, 1).alert == 0 && chip.run == 1);
-    CHECK(status(&chip) == 0x16);
+    (void)converting(&chip, 20, 341, 0);
+    CHECK(chip.run == 1);
+    (void)converting(&chip, 86, 200, 1);                     /* a local fault: the row goes on */
+    CHECK(chip.run == 2);
+    (void)converting(&chip, 0, 341, 1);
+    CHECK(chip.run == 3);
+    (void)converting(&chip, 20, 341, 0);
+    CHECK(chip.run == 4);
+    (void)converting(&chip, 86, 200, 1);
+    CHECK(chip.run == 4);
+    (void)converting(&chip, 20, 341, 1);                     /* none, with remote sample, flag and verdict at fault */
+    CHECK(chip.run == 0 && (chip.found & 0x10) != 0 && (chip.reg[0x02] & 0x10) != 0);
+    (void)converting(&chip, 20, 341, 1);
+    CHECK(chip.run == 0);
+    (void)converting(&chip, 20, 0, 0);
+    CHECK(chip.run == 1);
+
+    /* at the line: the row of 3 is reached only by the conversions that count. Between the last two the flags
+       are cleared by limits moved in standby, which leave the count, and then the latch. */
+    static const struct { int32_t local; int alert; } rows[] = { { 20, 1 }, { 86, 0 } };
+    for (int i = 0; i < 2; i++) {
+        chip = fresh_in(standby);
+        (void)writing(&chip, 0x22, 0x07);
+        (void)converting(&chip, 20, 341, 0);                 /* 1 */
+        (void)converting(&chip, rows[i].local, 341, 1);      /* 0, or with a local fault 2 */
+        (void)converting(&chip, 20, 341, 0);                 /* 1 or 3 */
+        (void)writing(&chip, 0x09, 0x40);
+        (void)writing(&chip, 0x0D, 0x7F);
+        (void)status(&chip);
+        CHECK(status(&chip) == 0x02);
+        STEP(&chip, 5, 0, 0, 0, 0, 153, 1, 0);
+        (void)writing(&chip, 0x09, standby ? 0x40 : 0x00);
+        write_uncompared(&chip, 0x0D, 0x55);
+        CHECK(converting(&chip, 20, 341, 0).alert == rows[i].alert);
+    }
+}
+
+/* A probe pulled on a board, told as a trace. */
+#define PULLED RECORD(6, 0, 0, 0) RECORD(7, 20, 341, 0) RECORD(6, 0, 0, 0) RECORD(7, 20, -32768, 1) \
+    RECORD(3, 76, 1, 0) RECORD(3, 76, 16, 0) RECORD(3, 76, 2, 0) RECORD(3, 76, 2, 0) \
+    RECORD(6, 0, 0, 0) RECORD(7, 20, 200, 0) RECORD(3, 76, 1, 0) RECORD(3, 76, 2, 0) RECORD(3, 76, 2, 0) \
+    RECORD(5, 0, 0, 0)
+#define PULLED_ANSWERS ANSWER(0, 0, 1, 1) ANSWER(0, 0, 0, 0) ANSWER(0, 0, 0, 0) ANSWER(0, 0, 0, 0) \
+    ANSWER(0, 85, 0, 0) ANSWER(0, 64, 0, 0) ANSWER(0, 22, 0, 0) ANSWER(0, 22, 0, 0) \
+    ANSWER(0, 0, 0, 0) ANSWER(0, 0, 0, 1) ANSWER(0, 50, 0, 1) ANSWER(0, 20, 0, 1) ANSWER(0, 0, 0, 1) \
+    ANSWER(0, 153, 1, 1)
+
+static void test_open_diode(void)
+{
+    for (int standby = 0; standby <= 1; standby++) {
+        test_open_value(standby);
+        test_open_therm(standby);
+        test_open_verdicts(standby);
+        test_open_flag(standby);
+        test_open_local(standby);
+        test_open_converted(standby);
+        test_open_run(standby);
+    }
 }
 
 /* ---- values ---- */
@@ -709,8 +1012,9 @@ static void test_replay(void)
     RECORD(6, 0, 0, 0) RECORD(6, 0, 0, 0) RECORD(7, -8192, -32768, 1) RECORD(3, 76, 2, 0) RECORD(3, 76, 255, 0)
 #define REFUSED_ANSWERS ANSWER(1, 0, 1, 1) ANSWER(1, 0, 1, 1) ANSWER(1, 0, 1, 1) \
     ANSWER(2, 0, 1, 1) ANSWER(2, 0, 1, 1) ANSWER(3, 0, 1, 1) ANSWER(3, 0, 1, 1) ANSWER(5, 0, 1, 1) \
-    ANSWER(0, 0, 1, 1) ANSWER(4, 0, 1, 1) ANSWER(0, 0, 0, 1) ANSWER(0, 44, 0, 1) ANSWER(0, 81, 0, 1)
+    ANSWER(0, 0, 1, 1) ANSWER(4, 0, 1, 1) ANSWER(0, 0, 0, 1) ANSWER(0, 36, 0, 1) ANSWER(0, 81, 0, 1)
     REPLAY(REFUSED, ROOM, 0, 13, (uint32_t)strlen(REFUSED), REFUSED_ANSWERS);
+    REPLAY(PULLED, ROOM, 0, 14, (uint32_t)strlen(PULLED), PULLED_ANSWERS);
 
     /* the same trace, address 77 */
     replay_at(__LINE__, 77, RECORD(3, 76, 254, 0) RECORD(3, 77, 254, 0), 44, ROOM, 0, 2, 44,
@@ -739,8 +1043,10 @@ static void test_malformed(void)
         "kind=000000\na=0\nb=0\nc=0\n", "kind=0x1\na=0\nb=0\nc=0\n", "kind=1.0\na=0\nb=0\nc=0\n",
         "kind=1e1\na=0\nb=0\nc=0\n", "kind=/\na=0\nb=0\nc=0\n", "kind=:\na=0\nb=0\nc=0\n", "kind=a\na=0\nb=0\nc=0\n",
         "kind=99999999999999999999\na=0\nb=0\nc=0\n",
-        "kind=0\na=\nb=0\nc=0\n", "kind=0\na=-0\nb=0\nc=0\n", "kind=0\na=00\nb=0\nc=0\n", "kind=0\na=123456\nb=0\nc=0\n",
-        "kind=0\na=0\nb=\nc=0\n", "kind=0\na=0\nb=-0\nc=0\n", "kind=0\na=0\nb=07\nc=0\n", "kind=0\na=0\nb=-123456\nc=0\n",
+        "kind=0\na=\nb=0\nc=0\n", "kind=0\na=-0\nb=0\nc=0\n", "kind=0\na=00\nb=0\nc=0\n",
+        "kind=0\na=123456\nb=0\nc=0\n",
+        "kind=0\na=0\nb=\nc=0\n", "kind=0\na=0\nb=-0\nc=0\n", "kind=0\na=0\nb=07\nc=0\n",
+        "kind=0\na=0\nb=-123456\nc=0\n",
         "kind=0\na=0\nb=0\nc=\n", "kind=0\na=0\nb=0\nc=-0\n", "kind=0\na=0\nb=0\nc=+1\n", "kind=0\na=0\nb=0\nc=1 \n",
         "kind=0\na=0\nb=0\nc=0",
     };
@@ -873,13 +1179,13 @@ static void test_counters(void)
     const second_seen *seen = &second_seen_counts;
 
     memset(&second_seen_counts, 0, sizeof second_seen_counts);
-    (void)converting(&chip, 86, 341, 1);                 /* flags 6, 4, 2; latch by open and by run */
-    CHECK(seen->flag_set[4] == 1 && seen->flag_set[2] == 1 && seen->flag_set[0] == 1);
-    CHECK(seen->flag_set[3] == 0 && seen->flag_set[1] == 0);
+    (void)converting(&chip, 86, 341, 1);                 /* flags 6 and 2; latch by open and by run */
+    CHECK(seen->flag_set[4] == 1 && seen->flag_set[2] == 0 && seen->flag_set[0] == 1);
+    CHECK(seen->flag_set[3] == 0 && seen->flag_set[1] == 0 && seen->held_unconverted == 1);
     CHECK(seen->latch_by_open == 1 && seen->latch_by_run == 1 && seen->converted_open == 1);
     CHECK(seen->converted_needed[0] == 1 && seen->converted_default == 1 && seen->converted_extended == 0);
     (void)converting(&chip, 86, 341, 0);
-    CHECK(seen->flag_set[4] == 1 && seen->latch_by_run == 1);
+    CHECK(seen->flag_set[4] == 1 && seen->flag_set[2] == 1 && seen->latch_by_run == 1);
     (void)status(&chip);
     CHECK(seen->flag_kept[4] == 1 && seen->flag_kept[2] == 1 && seen->flag_kept[0] == 0);
     CHECK(seen->flag_cleared[0] == 1 && seen->flag_cleared[4] == 0 && seen->read[2] == 1);
@@ -899,9 +1205,48 @@ static void test_counters(void)
     CHECK(seen->read[0x0B] == 1);
     (void)second_step(&chip, 9, 0, 0, 0);
     CHECK(seen->code[1] == 1);
+
+    /* what an open diode holds back */
+    memset(&second_seen_counts, 0, sizeof second_seen_counts);
+    chip = fresh();
+    (void)converting(&chip, 20, 341, 1);
+    (void)writing(&chip, 0x09, 0x40);
+    (void)writing(&chip, 0x0B, 0x55);
+    CHECK(seen->held_unconverted == 1 && seen->held_fault == 0 && seen->held_therm == 0);
+    CHECK(seen->standby_compares == 1 && seen->standby_local_only == 1);
+    (void)converting(&chip, 20, 341, 0);
+    (void)converting(&chip, 20, 200, 1);
+    (void)writing(&chip, 0x0B, 0x55);
+    CHECK(seen->held_unconverted == 1 && seen->held_fault == 1 && seen->held_therm == 1);
+    CHECK(seen->standby_compares == 2 && seen->standby_local_only == 1);
+    (void)converting(&chip, 20, 301, 0);
+    (void)converting(&chip, 20, 200, 1);
+    (void)converting(&chip, 20, 0, 0);
+    (void)converting(&chip, 20, 200, 1);
+    CHECK(seen->held_unconverted == 1 && seen->held_fault == 2 && seen->held_therm == 2 && seen->converted_open == 4);
 }
 
 /* ---- random walks: what must hold of any run ---- */
+
+/* What a conversion with the diode open must do to any chip at which one runs: to the remote channel nothing,
+   whatever the sample; to the local one what a good one does. */
+static bool holds_back(const second_chip *before, const second_chip *after, int32_t local, int32_t remote)
+{
+    enum { REMOTE_BITS = 0x1A, LOCAL_BITS = 0x61 };
+    second_chip other = *before, good = *before;
+    (void)second_step(&other, 7, local, -1 - remote, 1);
+    (void)second_step(&good, 7, local, remote, 0);
+    int held = before->reg[0x02] ^ after->reg[0x02], same = good.reg[0x02] ^ after->reg[0x02];
+    int run = after->found & 0x60 ? (before->run < 4 ? before->run + 1 : 4) : 0;
+    return memcmp(&other, after, sizeof other) == 0
+        && before->reg[0x01] == after->reg[0x01] && before->reg[0x10] == after->reg[0x10]
+        && (held & REMOTE_BITS) == 0 && (before->found & 0x18) == (after->found & 0x18)
+        && after->converted == (before->converted | 1)
+        && (same & LOCAL_BITS) == 0 && good.reg[0x00] == after->reg[0x00]
+        && (good.found & 0x60) == (after->found & 0x60)
+        && (after->reg[0x02] & 0x84) == 0x04 && (after->found & 0x04) != 0
+        && after->alert_latch == 1 && after->run == run;
+}
 
 static uint64_t seed = 20240611;
 
@@ -926,7 +1271,7 @@ static void test_walks(void)
         second_history history;
         history_begin(&history, 76, list, sizeof list / sizeof *list, &counts);
         size_t used = 0, written = 0;
-        bool steady = true, lines = true;
+        bool steady = true, lines = true, held_back = true;
         unsigned wrong = 0;
         static char expected[600000];
         for (int i = 0; i < 4000; i++) {
@@ -944,7 +1289,7 @@ static void test_walks(void)
             if (kind == 7) {
                 a = (int32_t)random_number(280) - 80;
                 b = (int32_t)random_number(1400) - 300;
-                c = random_number(10) == 0;
+                c = random_number(walk % 2 ? 10 : 3) == 0;
             }
             second_chip before = chip;
             second_answer answer = second_step(&chip, kind, a, b, c);
@@ -952,6 +1297,8 @@ static void test_walks(void)
                 && (answer.code == 0 || memcmp(&before, &chip, sizeof chip) == 0);
             lines = lines && answer.therm == ((chip.reg[2] & 3) == 0)
                 && answer.alert == !(chip.alert_latch && (chip.reg[3] & 0xA0) == 0);
+            if (kind == 7 && c == 1 && answer.code == 0)
+                held_back = held_back && holds_back(&before, &chip, a, b);
             wrong |= history_take(&history, kind, a, b, c, answer);
             used += (size_t)snprintf(trace + used, sizeof trace - used, "kind=%d\na=%d\nb=%d\nc=%d\n",
                                      (int)kind, (int)a, (int)b, (int)c);
@@ -961,6 +1308,7 @@ static void test_walks(void)
         }
         CHECK(steady);
         CHECK(lines);
+        CHECK(held_back);
         CHECK((wrong | history_end(&history)) == 0);
         CHECK(second_replay(76, (uint8_t *)trace, used, output, sizeof output, report, 16) == 0);
         CHECK(memcmp(output, expected, written) == 0);
@@ -981,6 +1329,7 @@ int main(void)
     test_registers();
     test_standby();
     test_status();
+    test_open_diode();
     test_values();
     test_bench_cases();
     test_replay();

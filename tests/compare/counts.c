@@ -72,9 +72,13 @@ static void show_seen(const second_seen *seen)
     show("conversion ended", "default range", seen->converted_default);
     show("conversion ended", "extended range", seen->converted_extended);
     show("conversion ended", "diode open", seen->converted_open);
+    show("open diode held back", "remote not converted", seen->held_unconverted);
+    show("open diode held back", "remote limit fault", seen->held_fault);
+    show("open diode held back", "remote THERM flag", seen->held_therm);
     SHOW_EACH("conversion ended, needed", needed, seen->converted_needed);
     show("conversion started", "by a one-shot", seen->one_shots);
     show("standby comparison", "", seen->standby_compares);
+    show("standby comparison", "local alone", seen->standby_local_only);
 }
 
 static void show_both(const char *what, const char *which, uint64_t model, uint64_t second)

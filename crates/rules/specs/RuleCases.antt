@@ -100,6 +100,8 @@ ruleRows =
     row (answered (convert (pos 20) (pos 0) (opened (pos 20) (pos 200) (status ∷ status ∷ [])))) (0 ∷ 12 ∷ 0 ∷ 1 ∷ []) ∷
     row (answered (highTherm ∷ hot (good (opened (pos 20) (pos 341) (status ∷ status ∷ []))))) (0 ∷ 4 ∷ 0 ∷ 1 ∷ []) ∷
     row (answered (convert (pos 20) (pos 0) (good (opened (pos 20) (pos 0) (status ∷ status ∷ []))))) (0 ∷ 4 ∷ 0 ∷ 1 ∷ []) ∷
+    -- what stands is not compared again with a limit that moved since
+    row (answered (good (write 0x0d 40 ∷ opened (pos 20) (pos 200) (status ∷ [])))) (0 ∷ 4 ∷ 0 ∷ 1 ∷ []) ∷
     -- it is no conversion of the remote channel, so that a standby write compares none; an earlier one still counts, with its value
     row (answered (opened (pos 20) (pos 200) (write 0x09 64 ∷ write 0x0e 16 ∷ status ∷ []))) (0 ∷ 4 ∷ 0 ∷ 1 ∷ []) ∷
     row (answered (good (opened (pos 20) (pos 100) (write 0x09 64 ∷ write 0x0d 40 ∷ status ∷ [])))) (0 ∷ 20 ∷ 0 ∷ 1 ∷ []) ∷
