@@ -219,6 +219,9 @@ def drawn(room):
     rows = [f"'{name}{' low' if name.isupper() else ''}' {-row}" for row, name in enumerate(names)]
     words = ["'9 write remote-high-limit 90 = 0x5a' 9", "'12 code 4: start' 12", "'power-on' 0"]
     check("rows and events have their names", [text for text in [", ".join(rows), *words, "one.trace, 19 events"] if text not in script])
+    blocks, _ = told(room, "convert 21 50.0 open\nconvert 22 51.0\nconvert 23 52.0 open\nreset\n")
+    check("an open diode draws the local value, and the remote one as it was", differs(
+        [[row[at] for row in blocks["degrees"]] for at in (1, 5)], [["NaN"] * 4 + ["51"] * 3 + ["NaN"] * 2, ["NaN"] * 2 + ["21"] * 2 + ["22"] * 2 + ["23"] + ["NaN"] * 2]))
     blocks, _ = told(room, "convert 20 85.25")
     spans = {(int(row[1]), float(row[2]), float(row[3])) for row in blocks["bars"]}
     check("bars that hold at the end", differs(spans, {(0, 2, 3), (-1, 2, 3), (-4, 2, 3), (-7, 1, 2)}))

@@ -23,7 +23,7 @@ from table import USUAL_ADDRESS
 TABLE = explain.TABLE
 WRITE, READ, RESPOND, END = 2, 3, 5, 7                 # kinds
 REGISTERS = TABLE.registers[TABLE.kinds[READ].reply]    # names of what is read, by command
-STATUS, CONFIGURATION, HYSTERESIS = 0x02, 0x03, 0x21
+LOCAL, STATUS, CONFIGURATION, HYSTERESIS = 0x00, 0x02, 0x03, 0x21
 # Each channel's value, high, low and THERM limit, with the command of the low byte where there is one.
 CHANNELS = [{0x01: 0x10, 0x07: 0x13, 0x08: 0x14, 0x19: None}, {0x00: None, 0x05: None, 0x06: None, 0x20: None}]
 DEGREES = CHANNELS[0] | CHANNELS[1]
@@ -193,19 +193,22 @@ def picture(records, shown, named):
     panels = [230, 230, 190, 150]
     gap, head = 22, 50
     height = head + sum(panels) + gap * (len(panels) - 1) + foot
-    measured, had = [], False
+    measured, had = [], set()
     for time in range(count + 1):
         if time and not shown[time].code:
-            kind = records[time - 1][0]
-            had = kind == END or had and kind != explain.RESET
+            kind, _, _, c = records[time - 1]
+            if kind == END:
+                had = had | {LOCAL} if c else set(VALUES)    # an open diode holds the remote channel back
+            elif kind == explain.RESET:
+                had = set()
         measured.append(had)
 
     rows = []
     for time in range(count + 2):
         at = min(time, count)    # the last event's state goes on for one unit
         one = shown[at]
-        # Before the first conversion a value register has 0, which nobody measured.
-        rows.append((time, *("NaN" if command in VALUES and not measured[at] else f"{one.degrees[command]:g}" for command in DEGREES)))
+        # Before a channel's first conversion its value register has 0, which nobody measured.
+        rows.append((time, *("NaN" if command in VALUES and command not in measured[at] else f"{one.degrees[command]:g}" for command in DEGREES)))
     bars = [(f"{name.upper()} low", [not getattr(one, name) for one in shown], 2) for name in TABLE.lines["answer"][2:]]
     bars += [(FLAGS[bit], [one.registers[STATUS] >> bit & 1 for one in shown], 0 if bit == BUSY else 1) for bit in [*LATCHED, BUSY]]
     boxes = [(f"{(low + high) / 2} {-row} {low} {high} {-row - 0.36} {-row + 0.36}", colour)
