@@ -112,8 +112,10 @@ int main(void)
     check("and an end", dlaveth_end(chip, 23.0, 20.0, 0), 0);
     check("with its value", dlaveth_read_byte_data(chip, 76, 0x00), 23);
     check("no diode was open", dlaveth_read_byte_data(chip, 76, 0x02), 0);
-    check("an open diode", dlaveth_convert_open(chip, 20.0, 20.0, 1), 0);
-    check("its flag", dlaveth_read_byte_data(chip, 76, 0x02), 0x04);
+    check("an open diode", dlaveth_convert_open(chip, 24.0, 99.0, 1), 0);
+    check("its flag, and no remote fault", dlaveth_read_byte_data(chip, 76, 0x02), 0x04);
+    check("the local value", dlaveth_read_byte_data(chip, 76, 0x00), 24);
+    check("the last good remote one", dlaveth_read_byte_data(chip, 76, 0x01), 20);
 
     check("standby", dlaveth_write_byte_data(chip, 76, 0x09, 0x40), 0);
     memcpy(before, chip, sizeof chip);

@@ -122,8 +122,8 @@ def by_hand(room):
              ("remote-therm-limit", 61), ("hysteresis", 7)]
     times = notation(room, "".join(f"write {name} {number}\n" for name, number in lines) + "write remote-low-limit-low-byte 0x40", "--address", "77")
     check("each limit at address 77", differs({name: times[-1][name.replace("-", "_")] for name, _ in lines}, dict(lines) | {"remote-low-limit": 4.25}))
-    times = notation(room, "convert -5 -5.0 open\nconvert 100 100.0\nstatus\nconvert 20 20.0\nstatus")
-    check("all five flags", differs(set_flags(times), ["", "busy", "local_low remote_low open", "local_low remote_low open busy", " ".join(FLAGS),
+    times = notation(room, "convert -5 -5.0\nconvert -5 -5.0 open\nconvert 100 100.0\nstatus\nconvert 20 20.0\nstatus")
+    check("all five flags", differs(set_flags(times), ["", "busy", "local_low remote_low", "local_low remote_low busy", "local_low remote_low open", "local_low remote_low open busy", " ".join(FLAGS),
                                                        "local_high remote_high", "local_high remote_high busy", "local_high remote_high", ""]))
     check("an empty trace has the power-on state", differs(len(notation(room, "")), 1))
 
