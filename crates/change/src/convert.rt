@@ -1,8 +1,9 @@
 // Document 01, Comparisons and Status: what the end of a conversion does.
 use crate::runs::counted;
-use crate::runs::sets;
+use crate::runs::reached;
 use channel::compare::fault;
 use channel::convert::converted as channel_converted;
+use channel::convert::held;
 use parts::channels::local;
 use parts::channels::remote;
 use parts::channels::with_local;
@@ -12,12 +13,15 @@ use parts::limits::remote_limits;
 use registers::bits::is_extended;
 use rules::event::Samples;
 use rules::register::Channel;
+use rules::state::ChannelState;
 use rules::state::State;
 ghost use mathlib.Core.Path.{_≡_};
+ghost use mathlib.Core.Bool.{true, false};
 ghost use Rattle.rules.specs.Channels.{comparedIn};
-ghost use Rattle.rules.specs.Conversion.{allConverted, codeFor, foundIn, latchedByConversion};
+ghost use Rattle.rules.specs.Conversion.{allConverted, codeFor, convertedOf, foundIn, latchedByConversion};
 ghost use Rattle.rules.specs.Conversion as rule;
-ghost use Rattle.rules.specs.State.{storedOf};
+ghost use Rattle.rules.specs.Comparisons.{limitsOf};
+ghost use Rattle.rules.specs.State.{channelAt, storedOf};
 
 fn local_code(s: State, sample: i16) -> u16
     ensures { λ r. ⌜ r ≡ codeFor (storedOf s) Channel.Local sample ⌝ }
@@ -51,24 +55,27 @@ fn compared_in(t: Samples, channel: Channel) -> bool
     }
 }
 
+fn local_converted(s: State, t: Samples) -> ChannelState
+    ensures { λ r. ⌜ r ≡ convertedOf (limitsOf (storedOf s) Channel.Local) (codeFor (storedOf s) Channel.Local (t .local)) true false (channelAt s Channel.Local) ⌝ }
+{
+    channel_converted(local_limits(s), local_code(s, t.local), local(s))
+}
+
+fn remote_converted(s: State, t: Samples) -> ChannelState
+    ensures { λ r. ⌜ r ≡ convertedOf (limitsOf (storedOf s) Channel.Remote) (codeFor (storedOf s) Channel.Remote (t .remote)) true false (channelAt s Channel.Remote) ⌝ }
+{
+    channel_converted(remote_limits(s), remote_code(s, t.remote), remote(s))
+}
+
 fn all_converted(s: State, t: Samples) -> State
     ensures { λ r. ⌜ r ≡ allConverted s t ⌝ }
 {
-    let l = channel_converted(
-        local_limits(s),
-        local_code(s, t.local),
-        compared_in(t, Channel::Local),
-        false,
-        local(s),
-    );
-    let r = channel_converted(
-        remote_limits(s),
-        remote_code(s, t.remote),
-        compared_in(t, Channel::Remote),
-        t.broken,
-        remote(s),
-    );
-    with_remote(with_local(s, l), r)
+    let after = with_local(s, local_converted(s, t));
+    if compared_in(t, Channel::Remote) {
+        with_remote(after, remote_converted(s, t))
+    } else {
+        with_remote(after, held(remote(s)))
+    }
 }
 
 // A verdict that stands from an earlier conversion is no fault found in this one.
@@ -92,7 +99,7 @@ fn latched(t: Samples, s: State) -> State
     ensures { λ r. ⌜ r ≡ latchedByConversion t s ⌝ }
 {
     State {
-        latch: s.latch | sets(s.runs, s.consecutive, t.broken),
+        latch: (s.latch | t.broken) | reached(s.runs, s.consecutive),
         ..s
     }
 }

@@ -7,7 +7,8 @@ ghost use mathlib.Core.Path.{_≡_};
 ghost use mathlib.Core.Bool.{cond};
 ghost use Prim.Native.Nat.{_+_, _≤_};
 ghost use Rattle.rules.specs.Write.{anyFault};
-ghost use Rattle.rules.specs.Runs.{runsOf, neededOf, convertedSets};
+ghost use lib.Dec.{leb};
+ghost use Rattle.rules.specs.Runs.{runsOf, neededOf};
 
 pub fn any_fault(s: State) -> bool
     ensures { λ r. ⌜ r ≡ anyFault s ⌝ }
@@ -45,8 +46,8 @@ fn needed(consecutive: u8) -> u8
         )
 }
 
-pub fn sets(runs: u8, consecutive: u8, broken: bool) -> bool
-    ensures { λ r. ⌜ r ≡ convertedSets runs consecutive broken ⌝ }
+pub fn reached(runs: u8, consecutive: u8) -> bool
+    ensures { λ r. ⌜ r ≡ leb (neededOf consecutive) runs ⌝ }
 {
-    broken | (needed(consecutive) <= runs)
+    needed(consecutive) <= runs
 }

@@ -4,8 +4,9 @@ use crate::compare::verdict;
 use rules::state::ChannelState;
 use rules::state::Limits;
 ghost use mathlib.Core.Path.{_≡_};
+ghost use mathlib.Core.Bool.{true, false};
 ghost use Rattle.rules.specs.Comparisons.{diodeOf};
-ghost use Rattle.rules.specs.Conversion.{measuredOf, takenOf, convertedOf};
+ghost use Rattle.rules.specs.Conversion.{measuredOf, convertedOf};
 
 fn measured(code: u16, c: ChannelState) -> ChannelState
     ensures { λ r. ⌜ r ≡ measuredOf code c ⌝ }
@@ -27,15 +28,16 @@ fn checked(broken: bool, c: ChannelState) -> ChannelState
     }
 }
 
-// Where the conversion does not compare the channel, it is no conversion of it.
-fn taken(l: Limits, code: u16, compares: bool, c: ChannelState) -> ChannelState
-    ensures { λ r. ⌜ r ≡ takenOf l code compares c ⌝ }
+// The channel's part of a conversion that compares it: its diode is not open.
+pub fn converted(l: Limits, code: u16, c: ChannelState) -> ChannelState
+    ensures { λ r. ⌜ r ≡ convertedOf l code true false c ⌝ }
 {
-    if compares { compared(l, measured(code, c)) } else { c }
+    checked(false, compared(l, measured(code, c)))
 }
 
-pub fn converted(l: Limits, code: u16, compares: bool, broken: bool, c: ChannelState) -> ChannelState
-    ensures { λ r. ⌜ r ≡ convertedOf l code compares broken c ⌝ }
+// Its part of one that an open diode keeps from it, whatever was measured: only the diode is checked.
+pub fn held(c: ChannelState) -> ChannelState
+    ensures { λ r. ⌜ r ≡ diodeOf true c ⌝ }
 {
-    checked(broken, taken(l, code, compares, c))
+    checked(true, c)
 }
