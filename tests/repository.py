@@ -277,7 +277,7 @@ def claims():
 
 # Which files must refuse an edit of the rules: the tables and what is said in other words, or what is shown of an event and of every sequence; of these the first list
 # by the laws of an event or the theorem, the second by what is seen of a chip.
-TABLES = ["proofs/Tables.antt", "proofs/Meant.antt", "proofs/Forms.antt", "proofs/Answered.antt", "proofs/Judged.antt", "proofs/OpenDiode.antt", "proofs/Therm.antt"]
+TABLES = ["proofs/Tables.antt", "proofs/Meant.antt", "proofs/Forms.antt", "proofs/Answered.antt", "proofs/Judged.antt", "proofs/Ended.antt", "proofs/Therm.antt"]
 THEOREM = ["proofs/Steps.antt", "proofs/Status.antt", "proofs/Alarm.antt", "proofs/Commands.antt"]
 SEEN = ["proofs/Steps.antt", "proofs/Kept.antt"]
 ALARMS = [

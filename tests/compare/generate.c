@@ -126,12 +126,17 @@ static void one_shot(generator *g)
 }
 
 /* In the way that the mode allows. */
-static void convert(generator *g)
+static void begin(generator *g)
 {
     if ((g->chip.reg[0x03] & 0x40) != 0)
         one_shot(g);
     else
         start(g);
+}
+
+static void convert(generator *g)
+{
+    begin(g);
     end(g);
 }
 
@@ -224,6 +229,44 @@ static void settle(generator *g)
     respond(g);
 }
 
+/* ---- a probe that is pulled ---- */
+
+static void remote_limit(generator *g, int32_t degrees)
+{
+    say_write(g, 0x0D, degrees);
+    say_write(g, 0x13, 0);
+}
+
+/* Above the limit of 16 degrees, the local value calm. */
+static void remote_fault(generator *g)
+{
+    begin(g);
+    say(g, END, local_measured(g, calm(g, g->chip.reg[0x06], g->chip.reg[0x05])), remote_measured(g, 4 * 16 + 1), 0);
+}
+
+/* The diode open after some faults in a row. What became of the run count shows once the latch is gone: a fault, the alert taken back in
+   standby, and a fault more. */
+static void pulled(generator *g)
+{
+    int32_t faults = random_between(g->random, 0, 4);
+    say_write(g, 0x22, random_chance(g->random, 50) ? 0x07 : 0x0F);
+    remote_limit(g, 16);
+    for (int32_t i = 0; i < faults; i++)
+        remote_fault(g);
+    begin(g);
+    say(g, END, local_sample(g), remote_sample(g), 1);
+    remote_fault(g);
+    say_write(g, 0x09, g->chip.reg[0x03] | 0x40);
+    wide_limits(g);
+    status(g);
+    respond(g);
+    say_write(g, 0x09, g->chip.reg[0x03] & ~0x40);
+    remote_limit(g, 16);
+    if (random_chance(g->random, 50))
+        say_write(g, 0x09, g->chip.reg[0x03] | 0x40);
+    remote_fault(g);
+}
+
 static void look(generator *g)
 {
     static const uint8_t registers[] = {0x00, 0x01, 0x03, 0x04, 0x05, 0x06, 0x07, 0x08, 0x10, 0x11, 0x12,
@@ -301,7 +344,7 @@ static void foreign(generator *g)
 typedef void action(generator *g);
 static action *const actions[] = {
     convert, start, end, limit, settle, configuration, one_shot, offset, consecutive,
-    status, respond, look, receive, any_command, reset, bad_event, foreign,
+    status, respond, look, receive, any_command, reset, bad_event, foreign, pulled,
 };
 enum { ACTIONS = sizeof actions / sizeof *actions };
 
@@ -310,15 +353,15 @@ static const struct character {
     bool in_standby;            /* the trace begins with a conversion, then standby */
     uint8_t weights[ACTIONS];
 } characters[] = {
-    /* conv st end lim sett conf shot off cons stat resp look rec any res bad for */
-    {false, {20, 2, 2, 10, 3, 6, 3, 4, 3, 12, 6, 6, 3, 8, 1, 4, 4}},    /* a little of all */
-    {false, {30, 1, 1, 14, 4, 1, 0, 0, 1, 16, 10, 4, 1, 0, 0, 1, 0}},   /* faults that come and go, and alerts */
-    {false, {40, 1, 1, 2, 2, 2, 0, 0, 5, 10, 5, 0, 0, 0, 1, 0, 0}},     /* faults in a row */
-    {true, {10, 0, 1, 40, 4, 3, 4, 1, 1, 20, 10, 3, 1, 0, 0, 1, 1}},    /* limits in standby */
-    {true, {30, 0, 0, 10, 12, 1, 0, 0, 5, 5, 2, 0, 0, 0, 0, 0, 0}},     /* one-shots in a row, alerts taken back between them */
-    {false, {25, 1, 1, 4, 1, 10, 2, 20, 1, 5, 2, 25, 1, 0, 0, 0, 0}},   /* ranges and offsets */
-    {false, {3, 3, 3, 1, 0, 2, 3, 1, 1, 3, 3, 2, 10, 50, 1, 8, 6}},     /* any command */
-    {false, {5, 5, 5, 1, 0, 4, 4, 0, 0, 4, 5, 0, 2, 5, 2, 40, 15}},     /* mostly refused */
+    /* conv st end lim sett conf shot off cons stat resp look rec any res bad for pull */
+    {false, {20, 2, 2, 10, 3, 6, 3, 4, 3, 12, 6, 6, 3, 8, 1, 4, 4, 2}},    /* a little of all */
+    {false, {30, 1, 1, 14, 4, 1, 0, 0, 1, 16, 10, 4, 1, 0, 0, 1, 0, 3}},   /* faults that come and go, and alerts */
+    {false, {40, 1, 1, 2, 2, 2, 0, 0, 5, 10, 5, 0, 0, 0, 1, 0, 0, 3}},     /* faults in a row */
+    {true, {10, 0, 1, 40, 4, 3, 4, 1, 1, 20, 10, 3, 1, 0, 0, 1, 1, 3}},    /* limits in standby */
+    {true, {30, 0, 0, 10, 12, 1, 0, 0, 5, 5, 2, 0, 0, 0, 0, 0, 0, 3}},     /* one-shots in a row, alerts taken back between them */
+    {false, {25, 1, 1, 4, 1, 10, 2, 20, 1, 5, 2, 25, 1, 0, 0, 0, 0, 1}},   /* ranges and offsets */
+    {false, {3, 3, 3, 1, 0, 2, 3, 1, 1, 3, 3, 2, 10, 50, 1, 8, 6, 0}},     /* any command */
+    {false, {5, 5, 5, 1, 0, 4, 4, 0, 0, 4, 5, 0, 2, 5, 2, 40, 15, 0}},     /* mostly refused */
 };
 
 generator generate_begin(randoms *random, trace *to, int32_t address)

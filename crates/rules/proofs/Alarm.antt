@@ -109,7 +109,7 @@ held-reached k n small = by (ltb n 4) refl
     by false e = let p : 4 ≤ n = ltb-false n 4 e in le-leb k 4 small ∙ sym (le-leb k n (omega arith))
 
 -- the two ways of counting the needed number agree, and it is 4 at the most
-needs-same : (b : ℕ) → (neededOf b ≡ needs b) × (needs b ≤ 4)
+pub needs-same : (b : ℕ) → (neededOf b ≡ needs b) × (needs b ≤ 4)
 unfolding neededOf
 needs-same b = by (bit 1 b) (bit 2 b) (bit 3 b)
   where

@@ -1,8 +1,8 @@
 -- Code 6 exactly, the order of codes, the lines of an answer, a flag that is read; and what code 2 leaves. Assumes nothing.
 use Prim.Native.Nat.{ℕ}
 use native.Mathlib.Omega.{arith}
-use mathlib.Core.Path.{_≡_, refl, ap}
-use mathlib.Core.Bool.{Bool, true, false, cond, not, _||_, and-false, and-true}
+use mathlib.Core.Path.{_≡_, refl, ap, _∙_}
+use mathlib.Core.Bool.{Bool, true, false, cond, not, _&&_, _||_, and-false, and-true, or-false}
 use lib.IntN.ℤ.{pos, negsuc}
 use borrow.Author.Tests.{eq-eqb, eqb-true, le-leb, leb-true}
 use Rattle.rules.specs.declared.answer.Answer.{Answer}
@@ -12,16 +12,24 @@ use Rattle.rules.specs.declared.register.Register.{Register}
 use Rattle.rules.specs.declared.state.ChannelState.{ChannelState}
 use Rattle.rules.specs.declared.state.Given.{Given}
 use Rattle.rules.specs.declared.state.State.{State}
-use Rattle.rules.specs.Judged.{CheckedNumbers, ChecksFirst, LinesRead, Regular, ShownMeans, SixExactly}
+use Rattle.rules.specs.Alarm.{findingOf, viewOf}
+use Rattle.rules.specs.Event.{checkOf}
+use Rattle.rules.specs.History.{Facts, entryOf}
+use Rattle.rules.specs.Judged.{CheckedNumbers, ChecksFirst, LinesRead, Regular, ResponseClears, ShownMeans, SixExactly, StatusReadClears}
 use Rattle.rules.specs.Lines.{alertLine, thermLine}
 use Rattle.rules.specs.PowerOn.{allZero, isAddress, madeAt, newChannel, newRest, noState}
 use Rattle.rules.specs.Rows.{trimOf}
 use Rattle.rules.specs.Sound.{Zeros, ZerosAfterCode2}
 use Rattle.rules.specs.State.{channelAt, storedOf}
-use Rattle.rules.specs.Step.{stepOf}
+use Rattle.rules.specs.Status.{flagAt, flagFor, markAt, shownOf}
+use Rattle.rules.specs.Status.Fault.{Above, Below, Open}
+use Rattle.rules.specs.Step.{applyOf, respondOf, stepOf}
 use Rattle.rules.proofs.Answers.{answer-has}
+use Rattle.rules.proofs.Kept.{status-only}
 use Rattle.rules.proofs.Lists.{no}
+use Rattle.rules.proofs.Meant.{any-means}
 use Rattle.rules.proofs.Rows.{channels-back, stored-back}
+use Rattle.rules.proofs.Steps.{byFinding, steps}
 use Rattle.rules.proofs.WellFormed.{Fit, Well, unwell, well}
 
 neither : (p q : Bool) → not (p || q) ≡ true → (p ≡ false) × (q ≡ false)
@@ -72,6 +80,25 @@ lines-read s n =
 pub shown-means : ShownMeans
 shown-means m =
     record { cleared = λ h. rw h (and-false (m .flag)); kept = λ h. rw h (and-true (m .flag)); verdict = refl }
+
+pub status-read-clears : StatusReadClears
+unfolding stepOf
+status-read-clears s w n reads f =
+    let k = checkOf n in
+    let x = entryOf (viewOf s) k 0 in
+    let m = markAt s f in
+    let other = ap (λ (y : Facts). y .reset) (status-only (viewOf s) k reads) in
+    rw w
+    (steps s (well s w) k 0 other .mark (f .channel) (f .fault)
+    ∙ ap (λ (b : Bool). cond b (shownOf m) (byFinding (findingOf f x) m)) reads)
+
+pub response-clears : ResponseClears
+unfolding stepOf applyOf respondOf
+response-clears s w low =
+    rw (w, low)
+    (ap (λ (b : Bool). s .latch && b)
+    (any-means .1 (flagAt s)
+    ∙ ap (λ (b : Bool). flagAt s (flagFor Local Above) || (flagAt s (flagFor Local Below) || (flagAt s (flagFor Remote Above) || (flagAt s (flagFor Remote Below) || b)))) (or-false (flagAt s (flagFor Remote Open)))))
 
 -- ---- What code 2 leaves ----
 

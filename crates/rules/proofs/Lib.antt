@@ -5,6 +5,7 @@ pub mod Answers
 pub mod Assured
 pub mod Choice
 pub mod Commands
+pub mod Ended
 pub mod Forms
 pub mod Judged
 pub mod Kept
@@ -12,7 +13,6 @@ pub mod Lists
 pub mod Match
 pub mod Meant
 pub mod NeverSix
-pub mod OpenDiode
 pub mod Rows
 pub mod Status
 pub mod Steps

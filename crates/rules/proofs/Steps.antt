@@ -334,7 +334,7 @@ module _ (s : State) (w : Well s) (t : Samples) where
   looks-made : viewFrom (givenOf s) rest (storedOf s) made ≡ measuredView (viewOf s) t
   looks-made = λ i. record { address = s .address; pointer = s .pointer; running = false; registers = storedOf s; converted = λ ch. made-seen ch .0 i; value = λ ch. made-seen ch .1 i }
 
-  converted-steps : Steps s (entry (endFacts true t) (measuredView (viewOf s) t) 0) (converted s t)
+  pub converted-steps : Steps s (entry (endFacts true t) (measuredView (viewOf s) t) 0) (converted s t)
   unfolding converted
   converted-steps =
       became s (endFacts true t) (measuredView (viewOf s) t) 0 rest (storedOf s) made looks-made

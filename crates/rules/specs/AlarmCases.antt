@@ -1,4 +1,4 @@
--- The premises of the claims in Alarm.antt, Assured.antt, Kept.antt and OpenDiode.antt are met, and what the history counts, in cases worked out by hand:
+-- The premises of the claims in Alarm.antt, Assured.antt, Kept.antt and Ended.antt are met, and what the history counts, in cases worked out by hand:
 -- a claim whose premises nothing meets says nothing. Proved in proofs/Tables.antt. Assumes nothing.
 use Prim.Native.Nat.{ℕ}
 use mathlib.Core.Path.{_≡_}

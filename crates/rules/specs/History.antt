@@ -107,7 +107,7 @@ foundIf made fault = cond made (outcome fault) MadeNone
 
 pub record Facts : Type 0 where
   pub reset : Bool  -- the chip was powered on
-  pub ended : Bool  -- a conversion ended with its values
+  pub ended : Bool  -- a conversion ended, with a value of each channel that it compares
   pub compared : Channel → Bool  -- was the channel compared with its limits; what was found is said by what is seen after it
   pub diode : Channel → Finding  -- what the check of its diode found, which nothing that is seen can tell
   pub statusRead : Bool  -- register 02 was read

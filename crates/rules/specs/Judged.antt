@@ -1,9 +1,9 @@
 -- Answer codes, in other words: exactly which states code 6 refuses, that codes 1 and 2 come in any other before 3, 4 and 5, and that an
--- answer's lines are those of the state that it gives; and what a status read does to one flag. The proofs are in proofs/Judged.antt.
--- Assumes nothing.
+-- answer's lines are those of the state that it gives; and what a status read does to each flag, and an alert response to the latch. The
+-- proofs are in proofs/Judged.antt. Assumes nothing.
 use Prim.Native.Nat.{ℕ, _≤_}
 use mathlib.Core.Path.{_≡_}
-use mathlib.Core.Bool.{_||_, false, true}
+use mathlib.Core.Bool.{_&&_, _||_, false, true}
 use lib.Dec.{eqb}
 use Rattle.rules.specs.declared.event.Checked.the-variants.{Good, Bad}
 use Rattle.rules.specs.declared.event.Event.{Event}
@@ -12,12 +12,16 @@ use Rattle.rules.specs.declared.register.Channel.the-variants.{Local, Re
 use Rattle.rules.specs.declared.register.Register.{Register}
 use Rattle.rules.specs.declared.state.Mark.{Mark}
 use Rattle.rules.specs.declared.state.State.{State}
+use Rattle.rules.specs.Alarm.{viewOf}
 use Rattle.rules.specs.Event.{checkOf, checkedCode}
-use Rattle.rules.specs.Lines.{alertLine, thermLine}
+use Rattle.rules.specs.History.{didOf}
+use Rattle.rules.specs.Lines.{alertLine, alertLow, thermLine}
 use Rattle.rules.specs.Rows.{trimOf}
 use Rattle.rules.specs.State.{channelAt, storedOf}
-use Rattle.rules.specs.Status.{shownOf}
+use Rattle.rules.specs.Status.{Flag, flagAt, flagFor, markAt, shownOf}
+use Rattle.rules.specs.Status.Fault.{Above, Below, Open}
 use Rattle.rules.specs.Step.{refused, stepOf}
+use Rattle.rules.specs.Trial.{respond}
 use Rattle.rules.specs.WellFormed.{wellFormed}
 
 -- 6, "address not 76 or 77; remote value over 1023; run count over 4; a bit set that the registers below never store"; the local value has
@@ -53,3 +57,15 @@ pub record ShownMark (m : Mark) : Type 0 where
 
 abbrev pub ShownMeans : Type 0
 ShownMeans = (m : Mark) → ShownMark m
+
+-- the same of the step, whichever flag and whatever else stands
+abbrev pub StatusReadClears : Type 0
+StatusReadClears =
+    (s : State) → wellFormed s ≡ true → (n : Numbers) → didOf (viewOf s) (checkOf n) .statusRead ≡ true → (f : Flag)
+    → markAt (stepOf s n .state) f ≡ record { found = markAt s f .found; flag = markAt s f .flag && markAt s f .found }
+
+-- "then clears the latch if flags 6 to 2 are all 0": each by its name
+abbrev pub ResponseClears : Type 0
+ResponseClears =
+    (s : State) → wellFormed s ≡ true → alertLow s ≡ true
+    → stepOf s respond .state .latch ≡ (s .latch && (flagAt s (flagFor Local Above) || (flagAt s (flagFor Local Below) || (flagAt s (flagFor Remote Above) || (flagAt s (flagFor Remote Below) || flagAt s (flagFor Remote Open))))))

@@ -12,8 +12,8 @@ use Rattle.rules.specs.Step.{stepOf}
 use Rattle.rules.specs.WellFormed.{wellFormed}
 
 -- from any well-formed state: each register is the one before it, but for one that a write names, which holds what it keeps of the byte;
--- a value changes only where a conversion that runs ends, and is then the code of its sample; so with the pointer, and whether a
--- conversion runs
+-- a value changes only where a conversion that runs ends and compares the channel, and is then the code of its sample; so with the
+-- pointer, and whether a conversion runs
 abbrev pub ViewKept : Type 0
 ViewKept =
     (s : State) (e : Numbers) → wellFormed s ≡ true → viewOf (stepOf s e .state) ≡ seenAfter (viewOf s) (checkOf e)

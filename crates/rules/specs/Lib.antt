@@ -33,4 +33,4 @@ pub mod Meant
 pub mod Forms
 pub mod Answered
 pub mod Judged
-pub mod OpenDiode
+pub mod Ended

@@ -1,5 +1,5 @@
--- What K1 to K12 do not reach, in the form of the bench cases' table: the cases that decide most, worked out from document 01 by
--- hand. Assumes nothing.
+-- What K1 to K12 do not reach, in the form of the bench cases' table: the cases that decide most, worked out by hand from document 01 and
+-- document 02's item 3. Assumes nothing.
 use mathlib.Core.Path.{_≡_}
 use mathlib.Core.Bool.{true}
 use mathlib.Core.List.{List, [], _∷_}
@@ -110,6 +110,29 @@ ruleRows =
     row (answered (highTherm ∷ write 0x22 0x07 ∷ hot (opened (pos 20) (pos 341) (hot (write 0x09 64 ∷ write 0x0d 0x7f ∷ status ∷ respond ∷ write 0x09 0 ∷ write 0x0d 0x55 ∷ hot []))))) (0 ∷ 0 ∷ 1 ∷ 1 ∷ []) ∷
     -- a local fault is: here the last is the third
     row (answered (write 0x22 0x07 ∷ write 0x0b 15 ∷ opened (pos 20) (pos 200) (good (write 0x09 64 ∷ write 0x0b 85 ∷ status ∷ respond ∷ write 0x09 0 ∷ write 0x0b 15 ∷ good [])))) (0 ∷ 0 ∷ 0 ∷ 1 ∷ []) ∷
+    -- a run of four ends with it; with a local fault it goes on
+    row (answered (highTherm ∷ write 0x22 0x07 ∷ hot (hot (hot (hot (opened (pos 20) (pos 341) (hot (write 0x09 64 ∷ write 0x0d 0x7f ∷ status ∷ respond ∷ write 0x09 0 ∷ write 0x0d 0x55 ∷ hot [])))))))) (0 ∷ 0 ∷ 1 ∷ 1 ∷ []) ∷
+    row (answered (write 0x22 0x07 ∷ write 0x0b 15 ∷ good (good (good (good (opened (pos 20) (pos 200) (good (write 0x09 64 ∷ write 0x0b 85 ∷ status ∷ respond ∷ write 0x09 0 ∷ write 0x0b 15 ∷ good [])))))))) (0 ∷ 0 ∷ 0 ∷ 1 ∷ []) ∷
+    -- it leaves the pointer, and at the end of a one-shot busy is over; THERM stands though its limit moved
+    row (answered (send 0x05 ∷ opened (pos 20) (pos 200) (receive ∷ []))) (0 ∷ 0x55 ∷ 0 ∷ 1 ∷ []) ∷
+    row (answered (write 0x09 64 ∷ write 0x0f 0 ∷ end (pos 20) (pos 200) 1 ∷ status ∷ [])) (0 ∷ 4 ∷ 0 ∷ 1 ∷ []) ∷
+    row (answered (convert (pos 20) (pos 341) (write 0x19 0x7f ∷ write 0x09 64 ∷ write 0x0f 0 ∷ end (pos 20) (pos 200) 1 ∷ status ∷ []))) (0 ∷ 22 ∷ 0 ∷ 0 ∷ []) ∷
+    -- a status read clears the other flags as ever, and an alert response keeps the latch while it stands
+    row (answered (write 0x0b 15 ∷ good (write 0x0b 85 ∷ opened (pos 20) (pos 200) (status ∷ status ∷ [])))) (0 ∷ 4 ∷ 0 ∷ 1 ∷ []) ∷
+    row (answered (opened (pos 20) (pos 200) (respond ∷ respond ∷ []))) (0 ∷ 153 ∷ 0 ∷ 1 ∷ []) ∷
+    -- the first good conversion behind it stores, compares and counts for standby
+    row (answered (opened (pos 20) (pos 200) (convert (pos 20) (pos 201) (read 0x10 ∷ [])))) (0 ∷ 0x40 ∷ 0 ∷ 1 ∷ []) ∷
+    row (answered (opened (pos 20) (pos 200) (convert (pos 20) (pos 341) (status ∷ [])))) (0 ∷ 22 ∷ 0 ∷ 0 ∷ []) ∷
+    row (answered (convert (pos 20) (pos 341) (opened (pos 20) (pos 100) (good (status ∷ []))))) (0 ∷ 20 ∷ 0 ∷ 1 ∷ []) ∷
+    row (answered (opened (pos 20) (pos 200) (good (write 0x09 64 ∷ write 0x0d 40 ∷ status ∷ [])))) (0 ∷ 20 ∷ 0 ∷ 1 ∷ []) ∷
+    -- a standby write compares low limits and THERM too while it stands, and the local channel whatever became of the remote one
+    row (answered (good (opened (pos 20) (pos 100) (write 0x09 64 ∷ write 0x0e 50 ∷ status ∷ [])))) (0 ∷ 12 ∷ 0 ∷ 1 ∷ []) ∷
+    row (answered (good (opened (pos 20) (pos 100) (write 0x09 64 ∷ write 0x19 49 ∷ status ∷ [])))) (0 ∷ 6 ∷ 0 ∷ 0 ∷ []) ∷
+    row (answered (opened (pos 20) (pos 200) (write 0x09 64 ∷ write 0x0b 19 ∷ status ∷ []))) (0 ∷ 68 ∷ 0 ∷ 1 ∷ []) ∷
+    row (answered (opened (pos 20) (pos 200) (write 0x09 64 ∷ write 0x20 19 ∷ status ∷ []))) (0 ∷ 5 ∷ 0 ∷ 0 ∷ []) ∷
+    -- no sample of a closed diode holds anything back
+    row (answered (convert (pos 20) (pos 32767) (read 0x01 ∷ []))) (0 ∷ 127 ∷ 0 ∷ 0 ∷ []) ∷
+    row (answered (convert (pos 20) (negsuc 32767) (status ∷ []))) (0 ∷ 8 ∷ 0 ∷ 1 ∷ []) ∷
     -- bits 7 and 5: ALERT is high, and the latch is kept
     row (answered (highTherm ∷ hot (write 0x09 128 ∷ []))) (0 ∷ 0 ∷ 1 ∷ 1 ∷ []) ∷
     row (answered (highTherm ∷ hot (write 0x09 32 ∷ respond ∷ []))) (3 ∷ 0 ∷ 1 ∷ 1 ∷ []) ∷
@@ -154,7 +177,9 @@ ruleRows =
     row (answered (good (write 0x09 64 ∷ write 0x0d 40 ∷ write 0x0d 60 ∷ status ∷ status ∷ []))) (0 ∷ 0 ∷ 0 ∷ 1 ∷ []) ∷
     -- an alert response with a flag standing keeps the latch
     row (answered (highTherm ∷ hot (respond ∷ []))) (0 ∷ 153 ∷ 0 ∷ 1 ∷ []) ∷
-    -- of either channel: the flag was not read since its fault went
+    -- of either channel, high or low: the flag was not read since its fault went
+    row (answered (convert (pos 0) (pos 200) (good (respond ∷ respond ∷ [])))) (0 ∷ 153 ∷ 0 ∷ 1 ∷ []) ∷
+    row (answered (convert (pos 20) (pos 0) (good (respond ∷ respond ∷ [])))) (0 ∷ 153 ∷ 0 ∷ 1 ∷ []) ∷
     row (answered (write 0x0b 30 ∷ convert (pos 31) (pos 200) (good (respond ∷ [])))) (0 ∷ 153 ∷ 0 ∷ 1 ∷ []) ∷
     -- address 77, kept by a reset
     row (answeredAt 77 (highTherm77 ∷ hot (respond ∷ []))) (0 ∷ 155 ∷ 0 ∷ 1 ∷ []) ∷
