@@ -43,7 +43,7 @@ enum {
  *   4 receive byte         a bus address
  *   5 alert response read
  *   6 conversion starts
- *   7 conversion ends      a local whole degrees -8192..8191, b remote quarters -32768..32767, c diode open 0..1
+ *   7 conversion ends      a local whole degrees -8192..8191, b remote quarters -32768..32767, c diode open 0..1: with 1 b is not stored
  */
 
 enum {

@@ -147,9 +147,10 @@ static inline int dlaveth_start(uint8_t *chip)
     return dlaveth_do(chip, 6, 0, 0, 0);
 }
 
-/* The conversion that runs ends with these degrees, each rounded down, local to whole degrees and remote to quarters; the remote diode is open
- * where open is 1, else 0: then the remote temperature is not stored and its registers keep the last good one. -EBUSY where none runs. What the registers then show is clamped: by default to 0..127 and 0..127.75, in the
- * extended range to -64..191 and -64..191.75. -EINVAL for a temperature that is no number, or not in -8192 to under 8192. */
+/* The conversion that runs ends with these degrees, each rounded down, local to whole degrees and remote to quarters. -EBUSY where none
+ * runs. What the registers then show is clamped: by default to 0..127 and 0..127.75, in the extended range to -64..191 and -64..191.75.
+ * open is 0, or 1 for an open remote diode: then the remote temperature is not stored, and its registers keep the last good one.
+ * -EINVAL for any other, and for a temperature, stored or not, that is no number or not in -8192 to under 8192. */
 static inline int dlaveth_end(uint8_t *chip, double local, double remote, int open)
 {
     int result = dlaveth_degrees(chip, local, remote);

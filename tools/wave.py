@@ -3,8 +3,8 @@
 the number of the event.
 
 All that is shown comes from the C library, asked after each event (tools/probe.c). Degrees are the registers read in the range that the
-configuration has at that event: a value stored before a change of range is so read off by 64 until the next conversion, as a driver reads it
-and as the chip compares it. Exit code 1: nothing was written. 3: gnuplot is missing, only the VCD was written.
+configuration has at that event: a value stored before a change of range is so read off by 64 until a conversion stores the next one, as a driver reads
+it and as the chip compares it. Exit code 1: nothing was written. 3: gnuplot is missing, only the VCD was written.
 """
 import argparse
 import os
