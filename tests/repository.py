@@ -319,13 +319,14 @@ def budget():
     check(f"{len(crates)} must-fail edits weigh {spent(crates)}: at most {most}", [] if spent(crates) <= most else ["they weigh more"])
     bare = [crate for crate in {path.parent.parent.name for path in ROOT.glob("crates/*/src/lib.rt")} if crate not in crates]
     check("every library has an edit", bare)
-    found = []
-    for crate, path in named():
-        try:
-            changed(crate, path.read_text())
-        except (OSError, ValueError) as error:
-            found.append(f"{crate}/{path.stem}: {error}")
-    check(f"{len(named())} named edits of the mutation run can be made in the code as it stands", found)
+    for sort, edits in ("named edits of the mutation run", named()), ("must-fail edits", [(path.parts[-3], path) for path in sorted(ROOT.glob("crates/*/must-fail/*.edit"))]):
+        found = []
+        for crate, path in edits:
+            try:
+                changed(crate, path.read_text())
+            except (OSError, ValueError) as error:
+                found.append(f"{crate}/{path.stem}: {error}")
+        check(f"{len(edits)} {sort} can be made in the code as it stands", found)
     for name, edit in ("text that is not there", "file: src/lib.rt\nold: no such\nnew: x\n"), ("no change", "file: src/lib.rt\n"):
         try:
             check(f"a named edit with {name} is found", [] if not changed("chip", edit) else ["it is not"])
