@@ -490,6 +490,28 @@ def built_first(room):
         check(f"the {what} is built first: a pipe is not told", differs((done.returncode, done.stdout, done.stderr), (0, b"", b"")))
 
 
+def installed_first(room):
+    """With a stand-in for apt-get, which says what it likes on both streams and installs a command, or fails."""
+    for name in "bin", "tools":
+        (room / name).mkdir()
+    shutil.copy(TOOLS / "need.sh", room / "tools")
+    command, apt = room / "bin" / "no-such-command", room / "bin" / "apt-get"
+    apt.write_text(f'#!/bin/sh\necho "$@"\necho "debconf: a word of $1" >&2\ncase $1 in install) ln -s /bin/true {command} ;; esac\n')
+    apt.chmod(0o755)
+    more = {"cwd": room, "env": os.environ | {"PATH": f"{room / 'bin'}:{os.environ['PATH']}"}}
+    words = ["bash", "-c", "set -euo pipefail; . tools/need.sh; need no-such-command one another; no-such-command"]
+    have = at_terminal(words, **more), at_terminal(words, **more)
+    check("what is missing is installed first: a terminal is told so, and told once", differs(have, ((0, "", "installing one another\r\n"), (0, "", ""))))
+    command.unlink()
+    done = subprocess.run(words, capture_output=True, stdin=subprocess.DEVNULL, **more)
+    check("what is missing is installed first: a pipe is told nothing, not apt's words either", differs((done.returncode, done.stdout, done.stderr), (0, b"", b"")))
+    command.unlink()
+    apt.write_text("#!/bin/sh\necho 'no right to' >&2\nexit 100\n")
+    done = subprocess.run(words, capture_output=True, stdin=subprocess.DEVNULL, **more)
+    want = b"no-such-command is missing, and Debian's packages for it (one another) could not be installed:\nno right to\n"
+    check("what cannot be installed is named, with apt's words", differs((done.returncode, done.stdout, done.stderr), (1, b"", want)))
+
+
 # ---- records and answers in one go
 
 # The standby case of document 01 (K12), worked out by hand: remote 200 quarters is over 4 * 40.
@@ -566,7 +588,7 @@ def helps(room):
 
 
 def main():
-    for part in recorded, streams, arriving, bounded, malformed, too_much, files, devices, progress, built_first, shown, helps:
+    for part in recorded, streams, arriving, bounded, malformed, too_much, files, devices, progress, built_first, installed_first, shown, helps:
         with tempfile.TemporaryDirectory() as room:
             try:
                 part(Path(room))

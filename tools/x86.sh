@@ -5,13 +5,11 @@
 #   x86_tool NAME                                     builds target/tools/NAME of tools/NAME.c, where it is missing or old
 
 . tools/need.sh
-need gcc gcc libc6-dev
+need_x86
 if [[ $(uname -m) == x86_64 ]]; then
     x86_cc=(gcc)
     x86_run=()
 else
-    need x86_64-linux-gnu-gcc gcc-x86-64-linux-gnu libc6-dev-amd64-cross
-    need qemu-x86_64 qemu-user
     x86_cc=(x86_64-linux-gnu-gcc -static)    # the emulator has no x86-64 libraries to load
     x86_run=(qemu-x86_64)
 fi
