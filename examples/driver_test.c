@@ -18,7 +18,7 @@ struct i2c_client { uint8_t *chip; int addr; };
 /* ---- The driver ---- */
 
 enum { REMOTE = 0x01, STATUS = 0x02, CONFIG_READ = 0x03, CONFIG = 0x09, LOCAL_HIGH = 0x0b, REMOTE_HIGH = 0x0d, REMOTE_FINE = 0x10, MAKER = 0xfe };
-enum { STANDBY = 0x40, FAULTS = 0x7c, REMOTE_HIGH_FAULT = 0x10, ALERT_RESPONSE = 0x0c };
+enum { STANDBY = 0x40, FAULTS = 0x7c, REMOTE_HIGH_FAULT = 0x10, OPEN_FAULT = 0x04, ALERT_RESPONSE = 0x0c };
 
 static int adt_probe(struct i2c_client *client)
 {
@@ -34,12 +34,18 @@ static int adt_set_high(struct i2c_client *client, int local, int remote)
     return result < 0 ? result : i2c_smbus_write_byte_data(client, REMOTE_HIGH, remote);
 }
 
-/* The remote temperature in thousandths of a degree. */
+/* The remote temperature in thousandths of a degree; while the probe is away, the last good one. */
 static int adt_remote(struct i2c_client *client)
 {
     int whole = i2c_smbus_read_byte_data(client, REMOTE), fine = i2c_smbus_read_byte_data(client, REMOTE_FINE);
 
     return whole < 0 ? whole : fine < 0 ? fine : whole * 1000 + fine / 64 * 250;
+}
+
+/* The same of these faults, which a status read showed: -ENODATA where the diode was open. */
+static int adt_remote_if(struct i2c_client *client, int faults)
+{
+    return faults < 0 ? faults : faults & OPEN_FAULT ? -ENODATA : adt_remote(client);
 }
 
 static int adt_sleep(struct i2c_client *client)
@@ -97,6 +103,15 @@ int main(void)
     check("the handler sees it once more, and clears it", adt_alert(&client), REMOTE_HIGH_FAULT);
     check("ALERT is high again", dlaveth_alert_line(chip), 1);
     check("nobody answers the alert response now", adt_alert(&client), -ENXIO);
+
+    check("the probe is pulled", dlaveth_convert_open(chip, 21.0, 0.0, 1), 0);
+    check("ALERT falls", dlaveth_alert_line(chip), 0);
+    check("the register keeps the last good temperature", adt_remote(&client), 40000);
+    check("the driver gives none", adt_remote_if(&client, adt_alert(&client)), -ENODATA);
+    check("the probe is back, at 41", dlaveth_convert(chip, 21.0, 41.0), 0);
+    check("the first status read shows the open diode once more", adt_remote_if(&client, adt_alert(&client)), -ENODATA);
+    check("ALERT is high again", dlaveth_alert_line(chip), 1);
+    check("the next one does not", adt_remote_if(&client, dlaveth_read_byte_data(chip, 76, STATUS) & FAULTS), 41000);
 
     memcpy(chip, saved, sizeof chip);    /* back to 59.75, before the alarm */
     check("the chip sleeps", adt_sleep(&client), 0);

@@ -1,5 +1,5 @@
 #!/usr/bin/env python3
-"""From what `rt ci` said: seconds for each crate, of its proofs and of its must-fail edits, as the wall clock has them with as many at a time as there are cores.
+"""From what `rt ci` said: seconds for each crate, of its proofs and of its must-fail edits, as the wall clock has them with others beside them (RT_JOBS).
 
     tests/seconds.py LOG
 """

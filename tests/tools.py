@@ -93,21 +93,26 @@ REFUSED = [
     ("send one-shot", "one-shot: no register to read"),
     ("receive 2", "1 behind 'receive' found"),
     ("reset 0", "1 behind 'reset' found"),
-    ("status 2", "2 behind 'read' found"),
+    ("status 2", "'status' wanted, 1 behind 'status' found"),
     ("end 20", "1 behind 'end' found"),
     ("end 20 20 shut", "shut: only 'open'"),
     ("end 20 20 1", "1: only 'open'"),
-    ("end 20 20 open open", "4 behind 'end' found"),
-    ("end 20.0 20", "20.0: no number"),
+    ("end 20 20 open open", "'end LOCAL REMOTE [open]' wanted, 4 behind 'end' found"),
+    ("convert 20 20 open open", "'convert LOCAL REMOTE [open]' wanted, 4 behind 'convert' found"),
+    ("end 20.0 20", "20.0: local is in whole degrees"),
+    ("end 20 open", "open: no temperature (degrees with a point"),
+    ("end 20 nan open", "nan: no temperature"),
+    ("end 20 50,0", "50,0: no temperature"),
+    ("end 20 07", "07: no number"),
     ("end 8192 20", "8192: local is"),
     ("end -8193 20", "-8193: local is"),
     ("end 20 32768", "32768: remote is"),
-    ("end 20 8192.0", "8192.0: remote is"),
+    ("end 20 8192.0", "8192.0: remote is -32768 to 32767 quarters, -8192.00 to 8191.75 degrees, only"),
     ("end 20 -8192.25", "-8192.25: remote is"),
     ("end 20 20.3", "20.3: no whole number of quarters"),
-    ("end 20 .25", ".25: no number of degrees"),
-    ("end 20 1." + "0" * 5000, "no number of degrees"),
-    ("convert 20", "1 behind 'end' found"),
+    ("end 20 .25", ".25: no temperature"),
+    ("end 20 1." + "0" * 5000, "no temperature"),
+    ("convert 20", "1 behind 'convert' found"),
     ("address 128", "128: address is 0 to 127"),
     ("address", "1 behind 'address' wanted, 0 found"),
     ("read \xff", "no number"),
@@ -187,7 +192,7 @@ EXPLAINED = [
                                                " -> done; ALERT high, THERM high"),
     ("read configuration", (0, 228, 1, 1), "read configuration (03) -> 228 = 0xe4: ALERT masked, standby, THERM2, extended range; ALERT high, THERM high"),
     ("start", (4, 0, 1, 1), "start -> refused, code 4: no start now; ALERT high, THERM high"),
-    ("end -3 -0.25 open", (5, 0, 1, 1), "end local -3, remote -0.25 (-1 quarters), open -> refused, code 5: nothing to end; ALERT high, THERM high"),
+    ("end -3 -0.25 open", (5, 0, 1, 1), "end local -3, remote open (-0.25 not stored) -> refused, code 5: nothing to end; ALERT high, THERM high"),
     ("raw 8 1 2 3", (1, 0, 1, 1), "kind=8 a=1 b=2 c=3 -> refused, code 1: no such kind; ALERT high, THERM high"),
     ("raw 3 76 256 0", (2, 0, 1, 1), "kind=3 a=76 b=256 c=0 -> refused, code 2: a field out of range; ALERT high, THERM high"),
     ("raw 6 0 0 1", (2, 0, 1, 1), "kind=6 a=0 b=0 c=1 -> refused, code 2: a field out of range; ALERT high, THERM high"),
@@ -203,6 +208,7 @@ def notation_of(words):
     told = words.split("  ", 1)[1].split(" -> ")[0]
     if told.startswith("kind="):
         return "raw " + re.sub(r"\w+=", "", told)
+    told = re.sub(r"remote open \((\S+) not stored\)", r"\1 open", told)
     told = re.sub(r" = 0x.*| [(\[].*?[)\]]+|,|\b(local|remote)(?= -?[0-9])", "", told)
     at = re.search(r" at ([0-9]+)", told)
     return f"address {at[1] if at else 76}\n" + (told.replace(at[0], "") if at else told)

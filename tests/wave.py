@@ -200,7 +200,7 @@ def told(room, text):
 
 
 # Rows of the picture, from the top; a row's place is its number below 0.
-ENDED, LIMIT, CONFIGURATION, STATUS, RESPONSE, RESET = range(0, -6, -1)
+ENDED, OPENED, LIMIT, CONFIGURATION, STATUS, RESPONSE, RESET = range(0, -7, -1)
 
 
 def drawn(room):
@@ -219,9 +219,17 @@ def drawn(room):
     rows = [f"'{name}{' low' if name.isupper() else ''}' {-row}" for row, name in enumerate(names)]
     words = ["'9 write remote-high-limit 90 = 0x5a' 9", "'12 code 4: start' 12", "'power-on' 0"]
     check("rows and events have their names", [text for text in [", ".join(rows), *words, "one.trace, 19 events"] if text not in script])
-    blocks, _ = told(room, "convert 21 50.0 open\nconvert 22 51.0\nconvert 23 52.0 open\nreset\n")
-    check("an open diode draws the local value, and the remote one as it was", differs(
-        [[row[at] for row in blocks["degrees"]] for at in (1, 5)], [["NaN"] * 4 + ["51"] * 3 + ["NaN"] * 2, ["NaN"] * 2 + ["21"] * 2 + ["22"] * 2 + ["23"] + ["NaN"] * 2]))
+    # Remote, local, and the remote value that is kept, which begins where the other ends and goes on to the event that stores the next.
+    check("no line of a kept value where none is", ["it is there"] if "kept" in script else [])
+    blocks, script = told(room, "convert 21 50.0 open\nconvert 22 51.0\nconvert 23 52.0 open\nstart\nend 24 53.0\nreset\nconvert 25 54.0\nconvert 26 55.0 open\n")
+    check("an open diode draws the local value, and apart the remote one as it was", differs([" ".join(row[at] for row in blocks["degrees"]) for at in (1, 5, 9)], [
+        "NaN NaN NaN NaN 51 51 51 NaN 53 NaN NaN 54 54 54 NaN",
+        "NaN NaN 21 21 22 22 23 23 24 NaN NaN 25 25 26 26",
+        "NaN NaN NaN NaN 51 NaN 51 51 53 NaN NaN NaN NaN 54 54",
+    ]))
+    check("and has a name for it", [] if "title 'kept, diode open'" in script else ["it has none"])
+    check("a conversion that an open diode ended has a mark of its own", differs([(int(time), int(row)) for time, row in blocks["marks"]],
+                                                                                 [(2, OPENED), (4, ENDED), (6, OPENED), (8, ENDED), (9, RESET), (11, ENDED), (13, OPENED)]))
     blocks, _ = told(room, "convert 20 85.25")
     spans = {(int(row[1]), float(row[2]), float(row[3])) for row in blocks["bars"]}
     check("bars that hold at the end", differs(spans, {(0, 2, 3), (-1, 2, 3), (-4, 2, 3), (-7, 1, 2)}))

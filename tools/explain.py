@@ -111,9 +111,11 @@ def event_of(record, refused):
         elif field.form == "byte":
             behind[-1] += " " + byte_of(number, register)
         elif field.form == "quarters":
-            behind.append(f"{field.name} {number / 4:.2f} ({number} quarters)")
+            sampled = field.name, f"{number / 4:.2f}"
+            behind.append(f"{' '.join(sampled)} ({number} quarters)")
         elif field.form == "flag":
-            behind += [field.name] * number
+            if number:    # of the diode whose sample stands before it
+                behind[-1] = f"{sampled[0]} {field.name} ({sampled[1]} not stored)"
         else:
             behind.append(f"{field.name} {number}")
     return kind.word + bus + (" " if behind else "") + ", ".join(behind)

@@ -30,10 +30,10 @@ def integer(word):
 
 
 def quarters(word):
-    if "." not in word:
+    if re.fullmatch(r"-?[0-9][0-9a-fA-Fx]*", word):
         return integer(word)
     if len(word) > LONGEST or not re.fullmatch(r"-?[0-9]+\.[0-9]+", word):
-        raise Bad(f"{word[:LONGEST]}: no number of degrees")
+        raise Bad(f"{word[:LONGEST]}: no temperature (degrees with a point, as 85.25, or plain quarters)")
     found = Fraction(word) * 4
     if found.denominator != 1:
         raise Bad(f"{word}: no whole number of quarters")
@@ -56,28 +56,33 @@ def field_of(field, word):
         return field.most
     if field.form in TABLE.registers:
         found = register(field.form, word)
+    elif field.form == "whole" and "." in word:
+        raise Bad(f"{word[:LONGEST]}: {field.name} is in whole degrees, with no point")
     else:
         found = quarters(word) if field.form == "quarters" else integer(word)
     if not field.least <= found <= field.most:
-        raise Bad(f"{word}: {field.name} is {field.least} to {field.most}, only '{RAW}' goes beyond")
+        degrees = f" quarters, {field.least / 4:.2f} to {field.most / 4:.2f} degrees" if field.form == "quarters" else ""
+        raise Bad(f"{word}: {field.name} is {field.least} to {field.most}{degrees}, only '{RAW}' goes beyond")
     return found
 
 
-def shape(kind):
-    """A kind as it is written."""
+def shape(kind, word=None, given=0):
+    """A kind as it is written; or by a word that stands for it and its first fields."""
     told = [f"[{f.name}]" if f.form == "flag" else f.name.upper() for f in kind.fields if f.form != "bus"]
-    return " ".join([kind.word, *told])
+    return " ".join([word or kind.word, *told[given:]])
 
 
-def record(word, words, address):
+def record(event, behind, address, said):
+    """The record of an event's word and first fields, with what stands behind the word that was written."""
+    word, *given = event
     if word not in TABLE.words:
         raise Bad(f"{word[:LONGEST]}: no such word")
     kind = TABLE.words[word]
     written = [field for field in kind.fields if field.form != "bus"]
     needed = sum(field.form != "flag" for field in written)
-    if not needed <= len(words) <= len(written):
-        raise Bad(f"'{shape(kind)}' wanted, {len(words)} behind '{word}' found")
-    left = list(words)
+    left = [*given, *behind]
+    if not needed <= len(left) <= len(written):
+        raise Bad(f"'{shape(kind, said, len(given))}' wanted, {len(behind)} behind '{said}' found")
     found = [address if f.form == "bus" else field_of(f, left.pop(0)) if left else f.least for f in kind.fields]
     return [kind.number, *found, 0, 0, 0][:4]
 
@@ -104,7 +109,7 @@ def records(text, address):
             else:
                 events = TABLE.shorts.get(word, [[word]])
                 for event, behind in zip(events, [[]] * (len(events) - 1) + [rest]):
-                    found.append(record(event[0], event[1:] + behind, address))
+                    found.append(record(event, behind, address, word))
         except Bad as bad:
             wrong.append((place, "".join(one if one.isprintable() else "?" for one in str(bad))))    # a terminal obeys the rest
     return found, wrong

@@ -23,7 +23,7 @@ from table import USUAL_ADDRESS
 TABLE = explain.TABLE
 WRITE, READ, RESPOND, END = 2, 3, 5, 7                 # kinds
 REGISTERS = TABLE.registers[TABLE.kinds[READ].reply]    # names of what is read, by command
-LOCAL, STATUS, CONFIGURATION, HYSTERESIS = 0x00, 0x02, 0x03, 0x21
+LOCAL, REMOTE, STATUS, CONFIGURATION, HYSTERESIS = 0x00, 0x01, 0x02, 0x03, 0x21
 # Each channel's value, high, low and THERM limit, with the command of the low byte where there is one.
 CHANNELS = [{0x01: 0x10, 0x07: 0x13, 0x08: 0x14, 0x19: None}, {0x00: None, 0x05: None, 0x06: None, 0x20: None}]
 DEGREES = CHANNELS[0] | CHANNELS[1]
@@ -38,7 +38,7 @@ SHIFT = 64           # degrees by which the extended range is shifted
 MOST = 2000          # records; each event replays all before it
 WORDY = 40           # up to so many events the picture has each in words
 LONGEST = 42         # characters of an event in words
-MARKS = ["conversion ended", "limit write", "configuration write", "status read", "alert response", "power-on reset"]
+MARKS = ["conversion ended", "ended, diode open", "limit write", "configuration write", "status read", "alert response", "power-on reset"]
 
 # After an event: its answer, then registers and degrees by command.
 Shown = namedtuple("Shown", "code reply alert therm registers degrees")
@@ -144,7 +144,7 @@ def marks_of(records, shown):
         if kind.number == explain.RESET:
             found.append((time, "power-on reset"))
         elif kind.number == END:
-            found.append((time, "conversion ended"))
+            found.append((time, "ended, diode open" if record[3] else "conversion ended"))
         elif kind.number == RESPOND:
             found.append((time, "alert response"))
         elif kind.number == WRITE and pointer == TO_CONFIGURATION:
@@ -193,22 +193,30 @@ def picture(records, shown, named):
     panels = [230, 230, 190, 150]
     gap, head = 22, 50
     height = head + sum(panels) + gap * (len(panels) - 1) + foot
-    measured, had = [], set()
+    # The values that some conversion stored, and whether an open diode held the remote one back in the latest.
+    measured, away, had, held = [], [], set(), False
     for time in range(count + 1):
         if time and not shown[time].code:
             kind, _, _, c = records[time - 1]
             if kind == END:
-                had = had | {LOCAL} if c else set(VALUES)    # an open diode holds the remote channel back
+                had, held = (had | {LOCAL}, True) if c else (set(VALUES), False)
             elif kind == explain.RESET:
-                had = set()
+                had, held = set(), False
         measured.append(had)
+        away.append(held)
 
     rows = []
     for time in range(count + 2):
         at = min(time, count)    # the last event's state goes on for one unit
         one = shown[at]
         # Before a channel's first conversion its value register has 0, which nobody measured.
-        rows.append((time, *("NaN" if command in VALUES and command not in measured[at] else f"{one.degrees[command]:g}" for command in DEGREES)))
+        row = {command: "NaN" if command in VALUES and command not in measured[at] else f"{one.degrees[command]:g}" for command in DEGREES}
+        # A remote value that was kept has a line of its own, up to the event that stores another; the other goes on to where it begins.
+        before = away[at - 1] if 0 < time <= count else away[at]
+        kept = row[REMOTE] if away[at] or before else "NaN"
+        if away[at] and before:
+            row[REMOTE] = "NaN"
+        rows.append((time, *row.values(), kept))
     bars = [(f"{name.upper()} low", [not getattr(one, name) for one in shown], 2) for name in TABLE.lines["answer"][2:]]
     bars += [(FLAGS[bit], [one.registers[STATUS] >> bit & 1 for one in shown], 0 if bit == BUSY else 1) for bit in [*LATCHED, BUSY]]
     boxes = [(f"{(low + high) / 2} {-row} {low} {high} {-row - 0.36} {-row + 0.36}", colour)
@@ -235,9 +243,13 @@ def picture(records, shown, named):
                      (value, "lc rgb '#000000' lw 2.5 dt 1")]
             column = {command: place for place, command in enumerate(DEGREES, 2)}
             numbers = [float(row[column[command] - 1]) for row in rows for command in CHANNELS[at] if row[column[command] - 1] != "NaN"]
+            lines = [(column[command], style, REGISTERS[command]) for command, style in drawn]
+            kept = [float(row[-1]) for row in rows if row[-1] != "NaN"]
+            if value == REMOTE and kept:
+                lines.append((len(DEGREES) + 2, "lc rgb '#808080' lw 2.5 dt 3", "kept, diode open"))
+                numbers += kept
             told += [f"set yrange [{min(numbers) - 8}:{max(numbers) + 8}]", f"set ylabel '{REGISTERS[value].split('-')[0]}, °C' offset screen -0.02,0",
-                     "plot " + ", ".join(f"$degrees using 1:{column[command]} with steps {style} title {quoted(REGISTERS[command])}"
-                                         for command, style in drawn)]
+                     "plot " + ", ".join(f"$degrees using 1:{place} with steps {style} title {quoted(name)}" for place, style, name in lines)]
         elif at == len(CHANNELS):
             tics = ", ".join(f"{quoted(name)} {-row}" for row, (name, _, _) in enumerate(bars))
             sorts = [(2, "#c02020", "line low"), (1, "#e08000", "flag set"), (0, "#8090a0", FLAGS[BUSY])]
