@@ -277,13 +277,20 @@ def claims():
 
 # Which files must refuse an edit of the rules: the tables and what is said in other words, or what is shown of an event and of every sequence; of these the first list
 # by the laws of an event or the theorem, the second by what is seen of a chip.
-TABLES = ["proofs/Tables.antt", "proofs/Meant.antt", "proofs/Forms.antt", "proofs/Answered.antt", "proofs/Judged.antt", "proofs/Ended.antt", "proofs/Therm.antt"]
+TABLES = ["proofs/Tables.antt", "proofs/Meant.antt", "proofs/Forms.antt", "proofs/Answered.antt", "proofs/Judged.antt", "proofs/Ended.antt", "proofs/Left.antt", "proofs/Therm.antt"]
 THEOREM = ["proofs/Steps.antt", "proofs/Status.antt", "proofs/Alarm.antt", "proofs/Commands.antt"]
 SEEN = ["proofs/Steps.antt", "proofs/Kept.antt"]
 ALARMS = [
     "read_clears_every_flag", "read_clears_no_flag", "compares_outside_standby", "no_standby_comparison",
     "compares_what_was_never_converted", "read_clears_the_latch", "response_always_clears", "open_diode_waits_for_the_count",
     "standby_raises_the_count", "reset_keeps_a_flag", "reset_keeps_a_verdict", "reset_keeps_the_latch", "reset_keeps_the_run_count", "reset_keeps_the_state",
+]
+
+# Those that a claim in other words and a row must refuse besides, each alone: the laws of an event refuse any edit of the step, so without
+# this a claim could be loosened and rows taken away.
+ENDED = [
+    "open_diode_stores_a_value", "open_diode_clears_a_verdict", "open_diode_converts", "open_diode_counts_a_fault_of_before", "open_diode_holds_local_back",
+    "open_diode_waits_for_the_count", "open_diode_keeps_the_run", "open_diode_not_flagged",
 ]
 
 LEFT = [
@@ -293,9 +300,16 @@ LEFT = [
 
 
 def places(crate, name):
+    """Lists of files, of each of which one must refuse the edit."""
     if crate != "rules":
-        return [f"proofs/{stem}.antt" for stem in SAYING.get(crate, [])]
-    return THEOREM if name in ALARMS else SEEN if name in LEFT else TABLES + THEOREM + SEEN
+        return [[f"proofs/{stem}.antt" for stem in SAYING.get(crate, [])]]
+    besides = [["proofs/Ended.antt"], ["proofs/Tables.antt"]] if name in ENDED else []
+    return [THEOREM if name in ALARMS else SEEN if name in LEFT else TABLES + THEOREM + SEEN, *besides]
+
+
+def unrefused(log, crate, name):
+    """Why an edit shows nothing."""
+    return next((why for at in places(crate, name) if (why := unfit(log, at))), "")
 
 
 # What the gate may spend on edits, whatever has landed: of its 25 minutes some twelve, at five to six seconds of one core for a weight of 1. An edit
@@ -338,7 +352,10 @@ def edits():
     log = "a.antt:1:1: error: `rw`: no occurrence of the path's left endpoint"
     check("an edit refused at a rewrite counts", [unfit(log, [])] if unfit(log, []) else [])
     check("an edit of the rules refused outside the tables and the theorem is found", [] if unfit(log, TABLES + THEOREM) else ["it is not"])
-    missing = [name for name in ALARMS + LEFT if not (ROOT / "crates" / "rules" / "must-fail" / f"{name}.edit").exists()]
+    law = "proofs/Steps.antt:1:1: error: x\nproofs/Tables.antt:1:1: error: x".replace("proofs", "rules/proofs")
+    claim = law + "\nrules/proofs/Ended.antt:1:1: error: x"
+    check("an edit that no claim of the end of a conversion refuses is found", differs([bool(unrefused(log, "rules", ENDED[0])) for log in (law, claim)], [True, False]))
+    missing = [name for name in ALARMS + LEFT + ENDED if not (ROOT / "crates" / "rules" / "must-fail" / f"{name}.edit").exists()]
     check("the edits that the alarm theorem and what an event leaves alone must refuse are there", missing)
     found, seen = [], 0
     for path in sorted(ROOT.glob("crates/*/must-fail/*.edit")):
@@ -347,7 +364,7 @@ def edits():
         seen += 1
         if not log.exists():
             found.append(f"{crate}/{path.stem}: not tried")
-        elif why := unfit(log.read_text(), places(crate, path.stem)):
+        elif why := unrefused(log.read_text(), crate, path.stem):
             found.append(f"{crate}/{path.stem}: {why}")
     check(f"{seen} must-fail edits are refused in a proof that fits the code's form, those of definitions by a table or a claim", found)
 

@@ -9,6 +9,7 @@ pub mod Ended
 pub mod Forms
 pub mod Judged
 pub mod Kept
+pub mod Left
 pub mod Lists
 pub mod Match
 pub mod Meant

@@ -3,16 +3,23 @@ use Prim.Native.Nat.{ℕ, suc, _+_, _*_, _-_, _/_, _≤_, _<_}
 use native.Mathlib.Nat.{add-zero, one-mul}
 use native.Mathlib.Omega.{arith}
 use mathlib.Core.Path.{_≡_, refl, ap, _∙_}
-use mathlib.Core.Bool.{Bool, true, false, cond, _||_, or-false}
+use mathlib.Core.Bool.{Bool, true, false, cond, not, _&&_, _||_, and-assoc, or-false}
+use mathlib.Core.List.{[], _∷_}
 use lib.Dec.{ltb}
 use lib.IntN.{ℤ, subℕ, _+ℤ_, _-ℤ_, _*ℤ_, +ℤ-idr}
 use lib.IntN.ℤ.{pos, negsuc}
 use borrow.Author.Tests.{eq-eqb, eqb-true, le-leb, le-ltb, lt-leb, lt-ltb, ltb-false, ne-eqb}
+use Rattle.rules.specs.declared.register.Channel.{Channel}
 use Rattle.rules.specs.declared.register.Channel.the-variants.{Local, Remote}
 use Rattle.rules.specs.declared.register.Register.the-variants.{RemoteOffset, RemoteOffsetFine}
+use Rattle.rules.specs.Bits.{bit, weight}
+use Rattle.rules.specs.Configuration.{choosesTherm2, masked}
 use Rattle.rules.specs.Conversion.{codeFor}
-use Rattle.rules.specs.Meant.{AnyMeans, BitsMean, Clamped, CodesMean, ComparedMeans, ComparisonsOrder, FlagsMean, KeepsMean, LimitsMean, ListsMean, MadeMeans, OffsetsMean, SamplesMean, SixMeans, ThermBitsMean, ThermCompares, TrimMeans, bytes}
+use Rattle.rules.specs.Meant.{AnyMeans, BitsMean, Clamped, CodesMean, ComparedMeans, ComparisonsOrder, FlagsMean, KeepsMean, LimitsMean, LinesMean, ListsMean, MadeMeans, NeedsMean, New, NewMeans, OffsetsMean, SamplesMean, SixMeans, ThermBitsMean, ThermCompares, TrimMeans, bytes}
+use Rattle.rules.specs.PowerOn.{madeAt, newChannel}
 use Rattle.rules.specs.Rows.{trimOf}
+use Rattle.rules.specs.Runs.{neededOf, ones}
+use Rattle.rules.specs.State.{channelAt}
 use Rattle.rules.specs.Values.{clampOf, codeOf, offsetOf}
 
 pub comparisons-order : ComparisonsOrder
@@ -129,3 +136,27 @@ compared-means t = (refl, λ e. rw e, λ e. rw e)
 pub made-means : MadeMeans
 made-means =
     record { first = (refl, refl); second = (refl, refl); others = λ n p q. rw (ne-eqb n 76 p, ne-eqb n 77 q); negative = λ n. refl }
+
+pub new-means : NewMeans
+new-means = (new 76, new 77)
+  where
+    new : (a : ℕ) → New (madeAt a .state)
+    new a = record { rest = refl; channels = by }
+      where
+        by : (ch : Channel) → channelAt (madeAt a .state) ch ≡ newChannel
+        by Local = refl
+        by Remote = refl
+
+pub needs-mean : NeedsMean
+unfolding neededOf
+needs-mean b = by (bit 1 b) (bit 2 b) (bit 3 b)
+  where
+    by : (x y z : Bool) → 1 + ones (x ∷ y ∷ z ∷ []) ≡ 1 + (weight x 1 + (weight (x && y) 1 + weight (x && (y && z)) 1))
+    by true true true = refl
+    by true true false = refl
+    by true false z = refl
+    by false y z = refl
+
+pub lines-mean : LinesMean
+lines-mean s =
+    (and-assoc (s .latch) (not (masked (s .config))) (not (choosesTherm2 (s .config))), refl, ap (λ (b : Bool). not (channelAt s Local .therm || b)) (or-false (channelAt s Remote .therm)))

@@ -69,6 +69,10 @@ mended = pulled ++ convert (pos 20) (pos 200) (status ∷ [])
 abbrev never : List Numbers
 never = write 0x0b 15 ∷ start ∷ end (pos 30) (pos 200) 1 ∷ []
 
+-- status reads while nothing stands: no spell, and none that showed 1
+abbrev calm : List Numbers
+calm = status ∷ convert (pos 20) (pos 200) (status ∷ status ∷ [])
+
 -- a conversion runs
 abbrev running : State
 running = stateOf (pos 76) (start ∷ [])
@@ -109,10 +113,10 @@ unfoldable pub counted : List (List ℕ)
 counted =
     countsOf remoteHigh (historyOf (pos 76) spells) ∷ countsOf remoteHigh (historyOf (pos 76) pulled)
     ∷ countsOf openFlag (historyOf (pos 76) pulled) ∷ countsOf remoteHigh (historyOf (pos 76) mended)
-    ∷ countsOf openFlag (historyOf (pos 76) mended) ∷ countsOf remoteHigh (historyOf (pos 76) never) ∷ []
+    ∷ countsOf openFlag (historyOf (pos 76) mended) ∷ countsOf remoteHigh (historyOf (pos 76) never) ∷ countsOf remoteHigh (historyOf (pos 76) calm) ∷ []
 
 abbrev pub CountsMet : Type 0
 CountsMet =
     counted
     ≡ ((2 ∷ 1 ∷ 1 ∷ 21 ∷ 342 ∷ 84 ∷ []) ∷ (1 ∷ 0 ∷ 0 ∷ 30 ∷ 341 ∷ 85 ∷ []) ∷ (1 ∷ 0 ∷ 0 ∷ 30 ∷ 341 ∷ 85 ∷ [])
-    ∷ (1 ∷ 1 ∷ 0 ∷ 20 ∷ 200 ∷ 85 ∷ []) ∷ (1 ∷ 1 ∷ 0 ∷ 20 ∷ 200 ∷ 85 ∷ []) ∷ (0 ∷ 0 ∷ 1 ∷ 30 ∷ 0 ∷ 85 ∷ []) ∷ [])
+    ∷ (1 ∷ 1 ∷ 0 ∷ 20 ∷ 200 ∷ 85 ∷ []) ∷ (1 ∷ 1 ∷ 0 ∷ 20 ∷ 200 ∷ 85 ∷ []) ∷ (0 ∷ 0 ∷ 1 ∷ 30 ∷ 0 ∷ 85 ∷ []) ∷ (0 ∷ 0 ∷ 0 ∷ 20 ∷ 200 ∷ 85 ∷ []) ∷ [])

@@ -29,6 +29,7 @@ pub mod Assured
 pub mod AlarmCases
 pub mod Therm
 pub mod Kept
+pub mod Left
 pub mod Meant
 pub mod Forms
 pub mod Answered

@@ -3,7 +3,7 @@
 -- nothing.
 use Prim.Native.Nat.{ℕ, zero, suc, _+_, _*_, _/_, _^_, _≤_, _<_}
 use mathlib.Core.Path.{_≡_}
-use mathlib.Core.Bool.{Bool, true, false, _&&_, _||_}
+use mathlib.Core.Bool.{Bool, true, false, not, _&&_, _||_}
 use mathlib.Core.List.{List, [], _∷_, map}
 use lib.IntN.{ℤ, _+ℤ_, _-ℤ_}
 use lib.IntN.ℤ.{pos, negsuc}
@@ -12,13 +12,17 @@ use Rattle.rules.specs.declared.register.Channel.the-variants.{Local, Re
 use Rattle.rules.specs.declared.register.Register.{Register}
 use Rattle.rules.specs.declared.register.Register.the-variants.{Config, Hysteresis, LocalHigh, LocalLow, LocalTherm, RemoteHigh, RemoteHighFine, RemoteLow, RemoteLowFine, RemoteOffset, RemoteOffsetFine, RemoteTherm}
 use Rattle.rules.specs.declared.event.Samples.{Samples}
+use Rattle.rules.specs.declared.state.State.{State}
 use Rattle.rules.specs.Bits.{bit, weight}
 use Rattle.rules.specs.Channels.{all, any, anyChannel, brokenAt, comparedIn, sampleAt, sum, traits}
 use Rattle.rules.specs.Comparisons.{aboveOf, belowOf, comparatorOf, limitsOf}
 use Rattle.rules.specs.Conversion.{codeFor}
+use Rattle.rules.specs.Lines.{alertLine, alertLow, thermLine}
 use Rattle.rules.specs.PowerOn.{madeOf}
 use Rattle.rules.specs.Rows.{keptBits, keptIn, rowOf, trimOf}
 use Rattle.rules.specs.Rows.Keeps.{All, Bits7652, Bits76}
+use Rattle.rules.specs.Runs.{neededOf}
+use Rattle.rules.specs.State.{channelAt, restOf}
 use Rattle.rules.specs.Status.{Flag, flagFor, flags, placeOf}
 use Rattle.rules.specs.Status.Fault.{Above, Below, Open}
 use Rattle.rules.specs.Values.{offsetOf}
@@ -153,3 +157,22 @@ pub record Makes : Type 0 where
 
 abbrev pub MadeMeans : Type 0
 MadeMeans = Makes
+
+-- "all else 00, pointer 00, no channel yet converted, no comparison made, run count 0", at either address
+pub record New (s : State) : Type 0 where
+  pub rest : restOf s ≡ record { pointer = 0; busy = false; runs = 0; latch = false }
+  pub channels : (ch : Channel) → channelAt s ch ≡ record { value = 0; converted = false; high = record { found = false; flag = false }; low = record { found = false; flag = false }; diode = record { found = false; flag = false }; therm = false }
+
+abbrev pub NewMeans : Type 0
+NewMeans = New (madeOf (pos 76) .state) × New (madeOf (pos 77) .state)
+
+-- "1 plus the ones that stand together from bit 1 upwards within bits 3 to 1", whatever the other bits
+abbrev pub NeedsMean : Type 0
+NeedsMean =
+    (b : ℕ) → neededOf b ≡ 1 + (weight (bit 1 b) 1 + (weight (bit 1 b && bit 2 b) 1 + weight (bit 1 b && (bit 2 b && bit 3 b)) 1))
+
+-- "ALERT is low exactly if the latch is set and configuration bits 7 and 5 are 0. THERM is low exactly if flag 1 or 0 is set."
+abbrev pub LinesMean : Type 0
+LinesMean =
+    (s : State) → (alertLow s ≡ (s .latch && (not (bit 7 (s .config)) && not (bit 5 (s .config))))) × (alertLine s ≡ not (alertLow s))
+    × (thermLine s ≡ not (channelAt s Local .therm || channelAt s Remote .therm))

@@ -162,7 +162,9 @@ ruleRows =
     -- a standby comparison latches whatever the count, and leaves the count alone
     row (answered (write 0x22 0x0f ∷ good (write 0x09 64 ∷ write 0x0d 40 ∷ []))) (0 ∷ 0 ∷ 0 ∷ 1 ∷ []) ∷
     row (answered (write 0x22 0x03 ∷ good (write 0x09 64 ∷ write 0x0d 40 ∷ write 0x0d 60 ∷ write 0x09 0 ∷ status ∷ status ∷ respond ∷ write 0x0d 40 ∷ good (status ∷ [])))) (0 ∷ 16 ∷ 1 ∷ 1 ∷ []) ∷
-    -- each write that compares in standby: 0B, 0C, 19, 20, 21, and none of 11, 12, 22, 0A
+    -- each write that compares in standby: 0B, 0C, 13, 14, 19, 20, 21, and none of 11, 12, 22, 0A
+    row (answered (good (write 0x0d 49 ∷ write 0x09 64 ∷ write 0x13 128 ∷ status ∷ []))) (0 ∷ 16 ∷ 0 ∷ 1 ∷ []) ∷
+    row (answered (good (write 0x0e 50 ∷ write 0x09 64 ∷ write 0x14 64 ∷ status ∷ []))) (0 ∷ 8 ∷ 0 ∷ 1 ∷ []) ∷
     row (answered (good (write 0x09 64 ∷ write 0x0b 19 ∷ status ∷ []))) (0 ∷ 64 ∷ 0 ∷ 1 ∷ []) ∷
     row (answered (good (write 0x09 64 ∷ write 0x0c 20 ∷ status ∷ []))) (0 ∷ 32 ∷ 0 ∷ 1 ∷ []) ∷
     row (answered (good (write 0x09 64 ∷ write 0x0e 50 ∷ status ∷ []))) (0 ∷ 8 ∷ 0 ∷ 1 ∷ []) ∷
@@ -170,11 +172,24 @@ ruleRows =
     row (answered (good (write 0x09 64 ∷ write 0x20 19 ∷ status ∷ []))) (0 ∷ 1 ∷ 1 ∷ 0 ∷ []) ∷
     row (answered (good (write 0x19 49 ∷ write 0x09 64 ∷ write 0x21 0 ∷ status ∷ []))) (0 ∷ 2 ∷ 1 ∷ 0 ∷ []) ∷
     row (answered (good (write 0x0d 40 ∷ write 0x09 64 ∷ write 0x11 1 ∷ write 0x12 64 ∷ write 0x22 1 ∷ write 0x0a 1 ∷ status ∷ []))) (0 ∷ 0 ∷ 1 ∷ 1 ∷ []) ∷
+    -- one that releases THERM
+    row (answered (hot (write 0x09 64 ∷ write 0x19 127 ∷ status ∷ []))) (0 ∷ 16 ∷ 0 ∷ 1 ∷ []) ∷
+    -- a conversion counts as made after a change of range, a one-shot, and one that standby cut off
+    row (answered (good (write 0x09 4 ∷ write 0x09 0x44 ∷ write 0x0d 40 ∷ status ∷ []))) (0 ∷ 16 ∷ 0 ∷ 1 ∷ []) ∷
+    row (answered (good (write 0x09 64 ∷ write 0x0f 0 ∷ end (pos 20) (pos 200) 1 ∷ write 0x0d 40 ∷ status ∷ []))) (0 ∷ 20 ∷ 0 ∷ 1 ∷ []) ∷
+    row (answered (good (start ∷ write 0x09 64 ∷ write 0x0d 40 ∷ status ∷ []))) (0 ∷ 16 ∷ 0 ∷ 1 ∷ []) ∷
     -- a channel never converted is not compared
     row (answered (write 0x09 64 ∷ write 0x0e 16 ∷ write 0x0c 16 ∷ status ∷ [])) (0 ∷ 0 ∷ 1 ∷ 1 ∷ []) ∷
     -- a write in standby that ends the fault: the flag is shown once more, then cleared; the latch stands
     row (answered (good (write 0x09 64 ∷ write 0x0d 40 ∷ write 0x0d 60 ∷ status ∷ []))) (0 ∷ 16 ∷ 0 ∷ 1 ∷ []) ∷
     row (answered (good (write 0x09 64 ∷ write 0x0d 40 ∷ write 0x0d 60 ∷ status ∷ status ∷ []))) (0 ∷ 0 ∷ 0 ∷ 1 ∷ []) ∷
+    -- a status read clears while a conversion runs, and leaves the pointer
+    row (answered (highTherm ∷ hot (good (start ∷ status ∷ status ∷ [])))) (0 ∷ 128 ∷ 0 ∷ 1 ∷ []) ∷
+    row (answered (highTherm ∷ hot (status ∷ receive ∷ []))) (0 ∷ 16 ∷ 0 ∷ 1 ∷ []) ∷
+    -- an alert response leaves THERM
+    row (answered (hot (respond ∷ []))) (0 ∷ 153 ∷ 0 ∷ 0 ∷ []) ∷
+    -- bit 0 of 22 is none of those that count
+    row (answered (highTherm ∷ write 0x22 0x02 ∷ hot [])) (0 ∷ 0 ∷ 1 ∷ 1 ∷ []) ∷
     -- an alert response with a flag standing keeps the latch
     row (answered (highTherm ∷ hot (respond ∷ []))) (0 ∷ 153 ∷ 0 ∷ 1 ∷ []) ∷
     -- of either channel, high or low: the flag was not read since its fault went
