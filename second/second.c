@@ -1,4 +1,4 @@
-/* second.c - the chip: registers, comparisons, status, ALERT and THERM. See second.h. */
+/* second.c - the chip: registers, comparisons, status, ALERT, THERM and THERM2. See second.h. */
 #include "second.h"
 #include "second_inside.h"
 
@@ -32,7 +32,7 @@ enum {
 /* Configuration bits. */
 enum { MASK_ALERT = 0x80, STANDBY = 0x40, THERM2 = 0x20, EXTENDED = 0x04 };
 
-/* Channels, as bits of `converted`. */
+/* Channels, as bits of `converted` and `therm2`. */
 enum { LOCAL = 0x01, REMOTE = 0x02 };
 
 enum { MOST_RUN = 4 };
@@ -69,9 +69,18 @@ static bool busy(const second_chip *chip)
     return (chip->reg[STATUS] & BUSY) != 0;
 }
 
+/* ALERT, which an alert response asks for: high in the THERM2 role, whatever pin 6 is. */
 static bool alert_is_low(const second_chip *chip)
 {
     return chip->alert_latch != 0 && !configured(chip, MASK_ALERT) && !configured(chip, THERM2);
+}
+
+/* Pin 6, which the answer reports: ALERT or, in the THERM2 role, the marks, which nothing masks. */
+static bool pin_6_is_low(const second_chip *chip)
+{
+    if (configured(chip, THERM2))
+        return (chip->therm2 & (LOCAL | REMOTE)) != 0;
+    return alert_is_low(chip);
 }
 
 static bool therm_is_low(const second_chip *chip)
@@ -108,6 +117,7 @@ bool second_well_formed(const second_chip *chip)
         stray |= chip->reg[i] & ~keeps[i];
     stray |= chip->found & ~LATCHED_FLAGS;
     stray |= chip->converted & ~(LOCAL | REMOTE);
+    stray |= chip->therm2 & ~(LOCAL | REMOTE);
     stray |= chip->alert_latch & ~1;
     return stray == 0 && within(chip->address, 76, 77) && chip->run <= MOST_RUN;
 }
@@ -136,6 +146,18 @@ static void count_flags(uint64_t counters[5], int flags)
 #endif
 }
 
+/* Adds one to the counter of each of the channels. */
+static void count_channels(uint64_t counters[2], int channels)
+{
+#if SECOND_COUNTING
+    counters[0] += (channels & LOCAL) != 0;
+    counters[1] += (channels & REMOTE) != 0;
+#else
+    (void)counters;
+    (void)channels;
+#endif
+}
+
 /* Records what the latest comparison says about `asked`: those in `faults` are
    found and their flags set; the others are not, and their flags stay. */
 static void note_faults(second_chip *chip, int asked, int faults)
@@ -151,16 +173,49 @@ static void note_faults(second_chip *chip, int asked, int faults)
 
 /* What one channel is compared by; codes count `scale` to the degree. */
 typedef struct {
+    int bit;                  /* LOCAL or REMOTE */
     int value, high, low;     /* codes */
     int therm;                /* degrees */
     int scale;
     int high_flag, low_flag, therm_flag;
 } channel;
 
+/* Where a value lies for a comparator with hysteresis, THERM or THERM2; all are codes. */
+enum { AT_RELEASE, BETWEEN, ABOVE };
+
+static int place(int value, int limit, int hysteresis)
+{
+    if (value > limit)
+        return ABOVE;
+    return value <= clamp(limit - hysteresis, 0, limit) ? AT_RELEASE : BETWEEN;
+}
+
+/* Works out the channel's THERM2 mark, in either role of pin 6. */
+static void mark_channel(second_chip *chip, const channel *ch, int hysteresis)
+{
+    bool was = (chip->therm2 & ch->bit) != 0;
+
+    switch (place(ch->value, ch->high, hysteresis)) {
+    case ABOVE:
+        chip->therm2 = (uint8_t)(chip->therm2 | ch->bit);
+        break;
+    case AT_RELEASE:
+        chip->therm2 = (uint8_t)(chip->therm2 & ~ch->bit);
+        if (was && ch->value == 0 && hysteresis > ch->high)
+            SECOND_SEEN(mark_cleared_at_0[ch->bit == REMOTE]);
+        break;
+    default:
+        if (was)
+            SECOND_SEEN(mark_kept[ch->bit == REMOTE]);
+        else
+            SECOND_SEEN(mark_kept_clear[ch->bit == REMOTE]);
+    }
+}
+
 /* Compares one channel and gives the limit faults found. */
 static int compare_channel(second_chip *chip, const channel *ch)
 {
-    int release = clamp(ch->therm - chip->reg[HYSTERESIS], 0, 255) * ch->scale;
+    int hysteresis = chip->reg[HYSTERESIS] * ch->scale;
     int faults = 0;
 
     if (ch->value > ch->high)
@@ -169,19 +224,23 @@ static int compare_channel(second_chip *chip, const channel *ch)
         faults |= ch->low_flag;
     note_faults(chip, ch->high_flag | ch->low_flag, faults);
 
-    if (ch->value > ch->therm * ch->scale)
+    int therm = place(ch->value, ch->therm * ch->scale, hysteresis);
+    if (therm == ABOVE)
         raise_status(chip, ch->therm_flag);
-    else if (ch->value <= release)
+    else if (therm == AT_RELEASE)
         drop_status(chip, ch->therm_flag);
+    mark_channel(chip, ch, hysteresis);
     return faults;
 }
 
 /* Compares the named channels and gives the limit faults found. */
 static int compare(second_chip *chip, int channels)
 {
+    int before = chip->therm2;
     int faults = 0;
     if (channels & LOCAL)
         faults |= compare_channel(chip, &(channel){
+            .bit = LOCAL,
             .value = chip->reg[LOCAL_VALUE],
             .high = chip->reg[LOCAL_HIGH],
             .low = chip->reg[LOCAL_LOW],
@@ -190,12 +249,20 @@ static int compare(second_chip *chip, int channels)
             .therm_flag = LOCAL_THERM_FLAG });
     if (channels & REMOTE)
         faults |= compare_channel(chip, &(channel){
+            .bit = REMOTE,
             .value = quarters(chip, REMOTE_VALUE, REMOTE_VALUE_FRACTION),
             .high = quarters(chip, REMOTE_HIGH, REMOTE_HIGH_FRACTION),
             .low = quarters(chip, REMOTE_LOW, REMOTE_LOW_FRACTION),
             .therm = chip->reg[REMOTE_THERM], .scale = 4,
             .high_flag = REMOTE_HIGH_FLAG, .low_flag = REMOTE_LOW_FLAG,
             .therm_flag = REMOTE_THERM_FLAG });
+
+    count_channels(second_seen_counts.mark_set, chip->therm2 & ~before);
+    count_channels(second_seen_counts.mark_cleared, before & ~chip->therm2);
+    if (!configured(chip, THERM2)) {
+        count_channels(second_seen_counts.mark_set_unseen, chip->therm2 & ~before);
+        count_channels(second_seen_counts.mark_cleared_unseen, before & ~chip->therm2);
+    }
     return faults;
 }
 
@@ -230,13 +297,17 @@ static void count_held_back(const second_chip *chip)
         SECOND_SEEN(held_fault);
     if ((chip->reg[STATUS] & REMOTE_THERM_FLAG) != 0)
         SECOND_SEEN(held_therm);
+    if ((chip->therm2 & REMOTE) != 0)
+        SECOND_SEEN(held_mark);
 }
 
-/* An open diode holds the remote channel back: no sample of it is stored, nothing of it compared, so its value,
-   verdicts, THERM flag and mark stand as they were, and only local faults are found for the run count. */
+/* An open diode holds the remote channel back: no sample of it is stored, nothing of it compared,
+   so its value, verdicts, THERM flag, THERM2 mark and whether it was converted stand as they were,
+   and only local faults are found for the run count. */
 static void end_conversion(second_chip *chip, int32_t local, int32_t remote, bool open)
 {
     int needed = needed_number(chip);
+    int marks = chip->therm2;
 
     if (open)
         count_held_back(chip);
@@ -246,6 +317,8 @@ static void end_conversion(second_chip *chip, int32_t local, int32_t remote, boo
         store_remote(chip, remote);
     int faults = compare(chip, open ? LOCAL : LOCAL | REMOTE);
     note_faults(chip, OPEN_FLAG, open ? OPEN_FLAG : 0);
+    if (open && (chip->therm2 & REMOTE) != 0 && chip->therm2 != marks)
+        SECOND_SEEN(held_mark_local);
 
     chip->run = (uint8_t)(faults != 0 ? clamp(chip->run + 1, 0, MOST_RUN) : 0);
     bool enough = chip->run >= needed;
@@ -286,7 +359,11 @@ static bool write_compares(int target)
 
 static void compare_in_standby(second_chip *chip)
 {
+    int before = chip->therm2;
     int faults = compare(chip, chip->converted);
+
+    count_channels(second_seen_counts.mark_set_standby, chip->therm2 & ~before);
+    count_channels(second_seen_counts.mark_cleared_standby, before & ~chip->therm2);
 
     if (chip->converted != 0)
         SECOND_SEEN(standby_compares);
@@ -302,6 +379,7 @@ static void compare_in_standby(second_chip *chip)
 static void write_byte(second_chip *chip, int command, int data)
 {
     int target = write_target(command);
+    bool was_therm2 = configured(chip, THERM2);
 
     chip->pointer = (uint8_t)command;
     SECOND_SEEN(written[command]);
@@ -317,6 +395,10 @@ static void write_byte(second_chip *chip, int command, int data)
     chip->reg[target] = (uint8_t)(data & keeps[target]);
     if (write_compares(target) && configured(chip, STANDBY))
         compare_in_standby(chip);
+    if (!was_therm2 && configured(chip, THERM2) && pin_6_is_low(chip))
+        SECOND_SEEN(therm2_begun_low);
+    if (was_therm2 && alert_is_low(chip))
+        SECOND_SEEN(latch_shown);
 }
 
 /* Replies the register at the pointer; a read of status then lets go the flags
@@ -400,7 +482,8 @@ static int judge(const second_chip *chip, int32_t kind, int32_t a, int32_t b, in
     case READ:
     case RECEIVE:        return a == chip->address ? SECOND_DONE : SECOND_NO_ACK;
     case ALERT_RESPONSE: return alert_is_low(chip) ? SECOND_DONE : SECOND_NO_ACK;
-    case START:          return configured(chip, STANDBY) || busy(chip) ? SECOND_NO_START : SECOND_DONE;
+    case START:          return configured(chip, STANDBY) || busy(chip)
+                             ? SECOND_NO_START : SECOND_DONE;
     case END:            return busy(chip) ? SECOND_DONE : SECOND_NO_END;
     default:             return SECOND_DONE;
     }
@@ -437,14 +520,35 @@ static int apply(second_chip *chip, int32_t kind, int32_t a, int32_t b, int32_t 
     }
 }
 
+/* Counts an answer in the THERM2 role, by the chip after the event. */
+static void count_therm2(const second_chip *chip, int32_t kind, int code)
+{
+    bool low = pin_6_is_low(chip), masked = configured(chip, MASK_ALERT);
+    bool latched = chip->alert_latch != 0 && !masked;
+    bool no_ack = kind == ALERT_RESPONSE && code == SECOND_NO_ACK;
+
+    if (low)
+        SECOND_SEEN(therm2_low);
+    if (low && masked)
+        SECOND_SEEN(therm2_low_masked);
+    if (!low && latched)
+        SECOND_SEEN(therm2_high_latched);
+    if (no_ack && latched)
+        SECOND_SEEN(therm2_no_ack);
+    if (no_ack && low)
+        SECOND_SEEN(therm2_no_ack_low);
+}
+
 second_answer second_step(second_chip *chip, int32_t kind, int32_t a, int32_t b, int32_t c)
 {
     second_answer answer = { .code = judge(chip, kind, a, b, c), .reply = 0 };
 
     if (answer.code == SECOND_DONE)
         answer.reply = apply(chip, kind, a, b, c);
-    answer.alert = !alert_is_low(chip);
+    answer.alert = !pin_6_is_low(chip);
     answer.therm = !therm_is_low(chip);
     SECOND_SEEN(code[answer.code]);
+    if (configured(chip, THERM2))
+        count_therm2(chip, kind, answer.code);
     return answer;
 }

@@ -1,7 +1,8 @@
 /*
  * second.h - an independent second model of one ADT7461, written from
  * document 01, with document 02's Item 3 in place of its line on the open
- * diode, alone and compared byte by byte with the first one.
+ * diode and Item 4 in place of its line on pin 6 as THERM2, alone and
+ * compared byte by byte with the first one.
  *
  * The chip is a file of byte registers, as the part has them, and a few
  * latches and marks. Nothing is allocated; a chip may be copied with =.
@@ -35,7 +36,7 @@ enum {
  * The chip. It is well formed (not refused by code 6) if
  *   reg[i] has no bit that the register never keeps (holes keep none),
  *   address is 76 or 77, run is at most 4, alert_latch is 0 or 1,
- *   found has only bits 6..2, converted only bits 1 and 0.
+ *   found has only bits 6..2, converted and therm2 only bits 1 and 0.
  * The remote value lies in reg 01 and 10 as the chip shows it, so "remote
  * value over 1023" is a low bit set in reg 10.
  */
@@ -51,13 +52,15 @@ struct second_chip {
                                       which a conversion with the diode open does not convert */
     uint8_t run;                   /* run count 0..4 */
     uint8_t alert_latch;           /* 1: the ALERT latch is set */
+    uint8_t therm2;                /* THERM2 marks that are set: bit 0 local, bit 1 remote; kept up
+                                      whatever configuration bit 5 says */
 };
 
 /* What one event is answered. */
 typedef struct {
     int code;     /* 0..6 */
     int reply;    /* reply byte, 0 unless code is 0 and the event is one that reads */
-    int alert;    /* ALERT line after the event, 1 is high */
+    int alert;    /* pin 6 after the event, 1 is high: ALERT, with configuration bit 5 set THERM2 */
     int therm;    /* THERM line after the event, 1 is high */
 } second_answer;
 
@@ -97,7 +100,7 @@ int32_t second_replay(int32_t address,
  */
 typedef struct second_seen second_seen;
 struct second_seen {
-    uint64_t read[256];           /* acknowledged reads, kinds 3 and 4, by the pointer they read at */
+    uint64_t read[256];           /* acknowledged kinds 3 and 4, by the pointer they read at */
     uint64_t written[256];        /* acknowledged kind 2, by command */
     uint64_t code[9];             /* 0..6: answers of second_step; 7, 8: replays that ended so
                                      (the code 2 of a refused replay or address is not counted) */
@@ -122,7 +125,29 @@ struct second_seen {
     uint64_t held_unconverted;    /* a remote channel not converted since power-on */
     uint64_t held_fault;          /* a latest remote limit verdict of fault */
     uint64_t held_therm;          /* a remote THERM flag that stood */
-    uint64_t standby_local_only;  /* limit writes in standby that compared the local channel alone */
+    uint64_t standby_local_only;  /* limit writes in standby that compared the local channel only */
+    /* The THERM2 marks; index 0 local, 1 remote. Between the thresholds is at or below the high
+       limit and above the limit less the hysteresis. A power-on counts in none of them. */
+    uint64_t mark_set[2];             /* went from 0 to 1 */
+    uint64_t mark_cleared[2];         /* went from 1 to 0 */
+    uint64_t mark_set_unseen[2];      /* of mark_set: while configuration bit 5 is 0 */
+    uint64_t mark_cleared_unseen[2];  /* of mark_cleared: while configuration bit 5 is 0 */
+    uint64_t mark_set_standby[2];     /* of mark_set: at a limit write in standby */
+    uint64_t mark_cleared_standby[2]; /* of mark_cleared: at a limit write in standby */
+    uint64_t mark_cleared_at_0[2];    /* of mark_cleared: at code 0, hysteresis over the limit */
+    uint64_t mark_kept[2];            /* set, and compared between the thresholds */
+    uint64_t mark_kept_clear[2];      /* clear, and compared between the thresholds */
+    /* Of the conversions ended with the diode open, those that held back ... */
+    uint64_t held_mark;               /* a remote mark that was set */
+    uint64_t held_mark_local;         /* the same, while the local mark changed */
+    /* Pin 6 in the THERM2 role. The first three count answers, whatever their code. */
+    uint64_t therm2_low;              /* the line is low */
+    uint64_t therm2_low_masked;       /* the same, with bit 7 set */
+    uint64_t therm2_high_latched;     /* the line is high, with the latch set and bit 7 at 0 */
+    uint64_t therm2_no_ack;           /* alert responses refused with the latch set, bit 7 at 0 */
+    uint64_t therm2_no_ack_low;       /* alert responses refused with the line low */
+    uint64_t therm2_begun_low;        /* writes that took bit 5 from 0 to 1, the line then low */
+    uint64_t latch_shown;             /* writes that took bit 5 from 1 to 0, ALERT then low */
 };
 extern second_seen second_seen_counts;
 

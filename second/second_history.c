@@ -16,10 +16,11 @@ enum {                                                                      /* w
 const char *const history_claims[HISTORY_CLAIMS] = {
     "a status read shows bits 6 to 2 as the flags stand",
     "spells opened are the clearing reads that showed 1, and one more if the flag stands",
-    "the alert line is low exactly if the latch stands and configuration bits 7 and 5 are 0",
+    "in the ALERT role the alert line is low exactly if the latch stands and bit 7 is 0",
     "an alert response is answered exactly if ALERT is low, with 2 times the address plus 1",
     "a refused event changes nothing of the history but its length",
     "code 0 is given exactly for the events that are done",
+    "in the THERM2 role the alert line is low exactly if a mark stands",
 };
 
 /* ---- the demand, over the list ---- */
@@ -135,6 +136,24 @@ bool history_latch_stands(const second_history *h, size_t n)
     return false;
 }
 
+/* ---- the marks, over the list ---- */
+
+bool history_mark_stands(const second_history *h, int channel, size_t n)
+{
+    for (size_t i = n; i-- > 0;) {
+        if (h->list[i].found[channel] == HISTORY_ABOVE)
+            return true;
+        if (h->list[i].found[channel] == HISTORY_AT_RELEASE)
+            return false;
+    }
+    return false;
+}
+
+bool history_either_mark_stands(const second_history *h, size_t n)
+{
+    return history_mark_stands(h, HISTORY_LOCAL, n) || history_mark_stands(h, HISTORY_REMOTE, n);
+}
+
 /* ---- what was written and measured ---- */
 
 static bool configured(const history_record *r, int bit)
@@ -216,6 +235,7 @@ static bool is_event(int32_t kind, int32_t a, int32_t b, int32_t c)
     return least[0] <= a && a <= most[0] && least[1] <= b && b <= most[1] && least[2] <= c && c <= most[2];
 }
 
+/* ALERT, not pin 6: with bit 5 set it is high. */
 static bool alert_is_low(const second_history *h)
 {
     return !configured(&h->record, MASK_ALERT) && !configured(&h->record, THERM2) && history_latch_stands(h, h->length);
@@ -241,16 +261,25 @@ static bool is_done(const second_history *h, int32_t kind, int32_t a)
     }
 }
 
+/* Where a value is found for the channel's mark; all are codes. */
+static uint8_t place(int32_t value, int32_t high, int32_t hysteresis)
+{
+    int32_t release = high > hysteresis ? high - hysteresis : 0;
+    return value > high ? HISTORY_ABOVE : value > release ? HISTORY_BETWEEN : HISTORY_AT_RELEASE;
+}
+
 static void compare_local(const history_record *r, history_moment *m)
 {
+    m->found[HISTORY_LOCAL] = place(r->local, r->written[LOCAL_HIGH], r->written[HYSTERESIS]);
     m->was[HISTORY_LOCAL_HIGH] = r->local > r->written[LOCAL_HIGH] ? HISTORY_FAULT : HISTORY_NO_FAULT;
     m->was[HISTORY_LOCAL_LOW] = r->local <= r->written[LOCAL_LOW] ? HISTORY_FAULT : HISTORY_NO_FAULT;
 }
 
 static void compare_remote(const history_record *r, history_moment *m)
 {
-    m->was[HISTORY_REMOTE_HIGH] =
-        r->remote > quarters(r, REMOTE_HIGH, REMOTE_HIGH_LOW_BYTE) ? HISTORY_FAULT : HISTORY_NO_FAULT;
+    int32_t high = quarters(r, REMOTE_HIGH, REMOTE_HIGH_LOW_BYTE);
+    m->found[HISTORY_REMOTE] = place(r->remote, high, 4 * r->written[HYSTERESIS]);
+    m->was[HISTORY_REMOTE_HIGH] = r->remote > high ? HISTORY_FAULT : HISTORY_NO_FAULT;
     m->was[HISTORY_REMOTE_LOW] =
         r->remote <= quarters(r, REMOTE_LOW, REMOTE_LOW_LOW_BYTE) ? HISTORY_FAULT : HISTORY_NO_FAULT;
 }
@@ -393,8 +422,48 @@ static void count_latch(second_history *h)
     h->counts->latch_cleared += history_clears_latch(h, latest);
 }
 
+/* Counts what the latest event was for each mark. */
+static void count_marks(second_history *h)
+{
+    size_t latest = h->length - 1;
+    const history_moment *m = &h->list[latest];
+    for (int channel = 0; channel < HISTORY_CHANNELS; channel++) {
+        if (m->found[channel] == HISTORY_NOT_COMPARED)
+            continue;
+        bool stood = history_mark_stands(h, channel, latest);
+        bool sets = !stood && m->found[channel] == HISTORY_ABOVE;
+        bool clears = stood && m->found[channel] == HISTORY_AT_RELEASE;
+        h->counts->marks_set[channel] += sets;
+        h->counts->marks_cleared[channel] += clears;
+        h->counts->marks_kept[channel] += stood && m->found[channel] == HISTORY_BETWEEN;
+        h->counts->marks_unseen += (sets || clears) && !configured(&h->record, THERM2);
+        h->counts->marks_standby += (sets || clears) && m->kind == WRITE;
+    }
+}
+
+/* Counts what pin 6 is after the latest event, in the THERM2 role or just out of it. */
+static void count_pin_6(second_history *h, const history_record *before)
+{
+    if (configured(&h->record, THERM2)) {
+        bool low = history_either_mark_stands(h, h->length);
+        h->counts->therm2_low += low;
+        h->counts->therm2_low_masked += low && configured(&h->record, MASK_ALERT);
+    } else if (configured(before, THERM2)) {
+        h->counts->latch_shown += alert_is_low(h);
+    }
+}
+
+static void count_response(second_history *h, bool done)
+{
+    h->counts->answered += done;
+    h->counts->refused += !done;
+    h->counts->therm2_refused += configured(&h->record, THERM2)
+        && !configured(&h->record, MASK_ALERT) && history_latch_stands(h, h->length);
+}
+
 static void count_reset(second_history *h)
 {
+    h->counts->resets_marked += history_either_mark_stands(h, h->length);
     h->counts->resets += h->length > 0;
     h->counts->resets_standing += any_stands(h, h->length) || history_latch_stands(h, h->length);
 }
@@ -429,7 +498,8 @@ static bool is_same_record(const history_record *x, const history_record *y)
         && x->running == y->running && memcmp(x->written, y->written, sizeof x->written) == 0;
 }
 
-/* Whether the latest event was nothing: for no flag, not for the latch, not for what is written and measured. */
+/* Whether the latest event was nothing: for no flag or mark, not for the latch, not for what is
+   written and measured. */
 static bool was_nothing(const second_history *h, const second_history *before)
 {
     if (h->length != before->length + 1 || !is_same_record(&h->record, &before->record)
@@ -439,6 +509,9 @@ static bool was_nothing(const second_history *h, const second_history *before)
     size_t latest = h->length - 1;
     for (int flag = 0; flag < HISTORY_FLAGS; flag++)
         if (h->list[latest].was[flag] != HISTORY_NOTHING)
+            return false;
+    for (int channel = 0; channel < HISTORY_CHANNELS; channel++)
+        if (h->list[latest].found[channel] != HISTORY_NOT_COMPARED)
             return false;
     return history_sets_latch(h, latest) == 0 && h->list[latest].kind != ALERT_RESPONSE;
 }
@@ -472,14 +545,19 @@ unsigned history_take(second_history *h, int32_t kind, int32_t a, int32_t b, int
         add(h, done ? happen(h, kind, a, b, c, answer.reply) : (history_moment){.kind = HISTORY_REFUSED});
         count_flags(h);
         count_latch(h);
+        count_marks(h);
         if (is_status_read(&h->list[h->length - 1], 0))
             wrong |= claim(h, HISTORY_STATUS, shows_as_stands(h, h->length - 1));
     }
     wrong |= claim(h, HISTORY_SPELLS, spells_come_out(h));
-    wrong |= claim(h, HISTORY_ALERT, (answer.alert == 0) == alert_is_low(h));
+    if (configured(&h->record, THERM2))
+        wrong |= claim(h, HISTORY_THERM2,
+                       (answer.alert == 0) == history_either_mark_stands(h, h->length));
+    else
+        wrong |= claim(h, HISTORY_ALERT, (answer.alert == 0) == alert_is_low(h));
+    count_pin_6(h, &before.record);
     if (event && kind == ALERT_RESPONSE) {
-        h->counts->answered += done;
-        h->counts->refused += !done;
+        count_response(h, done);
         wrong |= claim(h, HISTORY_RESPONSE, (answer.code == SECOND_DONE) == done
                        && (!done || answer.reply == 2 * h->record.address + 1));
     }

@@ -1,10 +1,12 @@
 /*
  * second_history.h - "no alarm is lost and none invented", checked on what a model answers.
  *
- * A history is told every event and its answer. It keeps what was written and measured, and a list of
- * what each event since the latest power-on was for each latched flag. Whether a flag or the ALERT latch
- * stands is kept nowhere: the functions below look back over the list, each in the demand's words. It is
- * written from document 01, document 02's Item 3 and the demand, and takes nothing from a model but the answers.
+ * A history is told every event and its answer. It keeps what was written and measured, and a list
+ * of what each event since the latest power-on was for each latched flag and each THERM2 mark.
+ * Whether a flag, a mark or the ALERT latch stands is kept nowhere: the functions below look back
+ * over the list, in the demand's words and, for the marks, in those of document 02's Item 4. It is
+ * written from document 01, document 02's Items 3 and 4 and the demand, and takes nothing from a
+ * model but the answers.
  */
 #ifndef SECOND_HISTORY_H
 #define SECOND_HISTORY_H
@@ -29,11 +31,23 @@ enum {
     HISTORY_SHOWED_1        /* a status read, and the answer showed 1 */
 };
 
+/* The channels, each of which has a THERM2 mark. */
+enum { HISTORY_LOCAL, HISTORY_REMOTE, HISTORY_CHANNELS };
+
+/* Where an event's comparison found the value of one channel. */
+enum {
+    HISTORY_NOT_COMPARED,   /* it made none of this channel */
+    HISTORY_AT_RELEASE,     /* at or below the high limit less the hysteresis (not under 0) */
+    HISTORY_BETWEEN,        /* above that, and not above the high limit */
+    HISTORY_ABOVE           /* above the high limit */
+};
+
 /* What one event was. */
 typedef struct {
-    uint8_t kind;                   /* its kind, or HISTORY_REFUSED */
-    uint8_t needed;                 /* at kind 7 the number that register 22 asks for, else 0 */
-    uint8_t was[HISTORY_FLAGS];     /* what it was for each flag */
+    uint8_t kind;                       /* its kind, or HISTORY_REFUSED */
+    uint8_t needed;                     /* at kind 7 the number that register 22 asks for, else 0 */
+    uint8_t was[HISTORY_FLAGS];         /* what it was for each flag */
+    uint8_t found[HISTORY_CHANNELS];    /* where it found each channel's value */
 } history_moment;
 enum { HISTORY_REFUSED = 255 };
 
@@ -50,10 +64,14 @@ typedef struct {
 enum {
     HISTORY_STATUS,         /* a status read shows each of bits 6 to 2 as the flag stood before it */
     HISTORY_SPELLS,         /* for each flag: spells opened = clearing reads that showed 1, + 1 if it stands */
-    HISTORY_ALERT,          /* the alert line is low exactly if the latch stands and bits 7 and 5 are 0 */
-    HISTORY_RESPONSE,       /* an alert response is answered exactly if so before it, with 2 * address + 1 */
+    HISTORY_ALERT,          /* with bit 5 at 0 the alert line is ALERT: low exactly if the latch
+                               stands and bit 7 is 0 */
+    HISTORY_RESPONSE,       /* an alert response is answered exactly if before it the latch stands
+                               and bits 7 and 5 are 0, with 2 * address + 1 */
     HISTORY_UNCHANGED,      /* a refused event changes nothing of the history but its length */
     HISTORY_SAME_EVENTS,    /* code 0 exactly for the events that the history takes: both count the same */
+    HISTORY_THERM2,         /* with bit 5 at 1 the alert line is THERM2: low exactly if a mark
+                               stands, whatever bit 7 is */
     HISTORY_CLAIMS
 };
 extern const char *const history_claims[HISTORY_CLAIMS];
@@ -71,6 +89,14 @@ typedef struct {
     uint64_t latch_cleared;                     /* alert responses answered with all five flags 0 */
     uint64_t answered, refused;                 /* alert responses */
     uint64_t resets, resets_standing;           /* power-ons behind other events; with a flag or the latch standing */
+    uint64_t marks_set[HISTORY_CHANNELS];       /* THERM2 marks that a comparison set, */
+    uint64_t marks_cleared[HISTORY_CHANNELS];   /* cleared, */
+    uint64_t marks_kept[HISTORY_CHANNELS];      /* or found between, and standing */
+    uint64_t marks_unseen, marks_standby;       /* set or cleared with bit 5 at 0; in standby */
+    uint64_t therm2_low, therm2_low_masked;     /* events with THERM2 low after; and bit 7 set */
+    uint64_t therm2_refused;                    /* of `refused`: for bit 5 alone */
+    uint64_t latch_shown;                       /* writes that took bit 5 to 0, ALERT then low */
+    uint64_t resets_marked;                     /* power-ons with a mark standing */
 } history_counts;
 
 typedef struct {
@@ -131,5 +157,12 @@ bool history_clears_latch(const second_history *h, size_t i);
 /* "The ALERT latch stands exactly if something that sets it came after the last alert response answered with
    all five flags 0." */
 bool history_latch_stands(const second_history *h, size_t n);
+
+/* "set above the high limit, cleared at or below that limit less the hysteresis (not under 0),
+   otherwise kept"; "clear at power-on" */
+bool history_mark_stands(const second_history *h, int channel, size_t n);
+
+/* "either mark is set" */
+bool history_either_mark_stands(const second_history *h, size_t n);
 
 #endif

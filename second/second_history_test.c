@@ -1,6 +1,7 @@
 /*
- * second_history_test.c - tests of the history, on answers worked out by hand from document 01 and document 02's
- * Item 3. No model is asked. At every event wrong answers are tried as well: their claim must not hold.
+ * second_history_test.c - tests of the history, on answers worked out by hand from document 01 and
+ * document 02's Items 3 and 4. No model is asked. At every event wrong answers are tried as well:
+ * their claim must not hold.
  */
 #include "second_history.h"
 #include "second_test.h"
@@ -10,7 +11,7 @@
 enum { ROOM = 64, ONE_CLAIM = 1 };
 enum { STATUS = ONE_CLAIM << HISTORY_STATUS, SPELLS = ONE_CLAIM << HISTORY_SPELLS, ALERT = ONE_CLAIM << HISTORY_ALERT,
        RESPONSE = ONE_CLAIM << HISTORY_RESPONSE, UNCHANGED = ONE_CLAIM << HISTORY_UNCHANGED,
-       SAME_EVENTS = ONE_CLAIM << HISTORY_SAME_EVENTS };
+       SAME_EVENTS = ONE_CLAIM << HISTORY_SAME_EVENTS, THERM2 = ONE_CLAIM << HISTORY_THERM2 };
 
 static second_history h;
 static history_moment list[ROOM];
@@ -40,8 +41,9 @@ static void take_at(int line, int32_t kind, int32_t a, int32_t b, int32_t c, int
     second_answer wrong = right;
     bool caught = true;
 
+    /* caught by the claim of the role that pin 6 has after the event */
     wrong.alert = !alert;
-    caught = caught && (tried(kind, a, b, c, wrong) & ALERT) != 0;
+    const unsigned line_claim = tried(kind, a, b, c, wrong) & (ALERT | THERM2);
     wrong = right;
     wrong.code = code == 0 ? 3 : 0;
     caught = caught && (tried(kind, a, b, c, wrong) & SAME_EVENTS) != 0;
@@ -55,6 +57,8 @@ static void take_at(int line, int32_t kind, int32_t a, int32_t b, int32_t c, int
         caught = caught && (tried(kind, a, b, c, (second_answer){5, 0, alert, 1}) & UNCHANGED) != 0;
     check_at(__FILE__, line, caught, "a wrong answer is caught");
     check_at(__FILE__, line, history_take(&h, kind, a, b, c, right) == 0, "the right answer is good");
+    check_at(__FILE__, line, line_claim == (h.record.written[0x09] & 0x20 ? THERM2 : ALERT),
+             "a wrong line is caught");
 }
 /* kind, a, b, c, then code, reply, alert */
 #define TAKE(...) take_at(__LINE__, __VA_ARGS__)
@@ -411,7 +415,8 @@ static void test_response_with_flag(void)
     TAKE(5, 0, 0, 0, 3, 0, 1);
     CHECK(counts.answered == 3 && counts.refused == 1 && counts.latch_cleared == 1);
 
-    CONVERT(20, 341, 0, 1, 0);                      /* masked, and THERM2: the latch stands behind a high line */
+    /* masked, and in the THERM2 role with no mark: the latch stands behind a high line */
+    CONVERT(0, 100, 0, 1, 0);
     WRITE(0x09, 0x80, 1);
     CHECK(latch_stands());
     TAKE(5, 0, 0, 0, 3, 0, 1);
@@ -419,6 +424,7 @@ static void test_response_with_flag(void)
     TAKE(5, 0, 0, 0, 3, 0, 1);
     WRITE(0x09, 0x1B, 0);                           /* bits that are not kept */
     TAKE(5, 0, 0, 0, 0, 153, 0);
+    CHECK(counts.therm2_refused == 1 && counts.latch_shown == 1 && counts.therm2_low == 0);
 }
 
 static void test_standby_and_row(void)
@@ -525,6 +531,177 @@ static void test_reads_and_refusals(void)
     CHECK(history_end(&h) == 0);
 }
 
+/* ---- pin 6 as THERM2: document 02, Item 4 ---- */
+
+static bool marks_are(bool local, bool remote)
+{
+    return history_mark_stands(&h, HISTORY_LOCAL, h.length) == local
+        && history_mark_stands(&h, HISTORY_REMOTE, h.length) == remote
+        && history_either_mark_stands(&h, h.length) == (local || remote);
+}
+
+/* Where the event told last found the two values. */
+static bool found_at(int local, int remote)
+{
+    const history_moment *m = &list[h.length - 1];
+    return m->found[HISTORY_LOCAL] == local && m->found[HISTORY_REMOTE] == remote;
+}
+
+enum { NOT_COMPARED = HISTORY_NOT_COMPARED, AT_RELEASE = HISTORY_AT_RELEASE,
+       BETWEEN = HISTORY_BETWEEN, ABOVE = HISTORY_ABOVE };
+
+/* "set above the high limit, cleared at or below that limit less the hysteresis (not under 0),
+   otherwise kept"; the remote limit is 80.5 degrees, 322, and 282 with the hysteresis taken off */
+static void test_marks(bool standby)
+{
+    begin(76);
+    WRITE(0x09, standby ? 0x60 : 0x20, 1);
+    WRITE(0x0D, 80, 1);
+    WRITE(0x13, 0x80, 1);
+    convert_at(__LINE__, standby, 85, 322, 0, 1, 1);
+    CHECK(found_at(BETWEEN, BETWEEN) && marks_are(false, false));
+    convert_at(__LINE__, standby, 86, 282, 0, 1, 0);
+    CHECK(found_at(ABOVE, AT_RELEASE) && marks_are(true, false));
+    convert_at(__LINE__, standby, 76, 283, 0, 0, 0);
+    CHECK(found_at(BETWEEN, BETWEEN) && marks_are(true, false));
+    convert_at(__LINE__, standby, 75, 323, 0, 0, 0);
+    CHECK(found_at(AT_RELEASE, ABOVE) && marks_are(false, true));
+    convert_at(__LINE__, standby, 76, 283, 0, 0, 0);
+    CHECK(found_at(BETWEEN, BETWEEN) && marks_are(false, true));
+    convert_at(__LINE__, standby, 86, 283, 0, 0, 0);
+    CHECK(marks_are(true, true));
+    convert_at(__LINE__, standby, 86, 282, 0, 0, 0);
+    CHECK(marks_are(true, false));
+    convert_at(__LINE__, standby, 75, 282, 0, 0, 1);
+    CHECK(marks_are(false, false));
+    CHECK(counts.marks_set[HISTORY_LOCAL] == 2 && counts.marks_cleared[HISTORY_LOCAL] == 2);
+    CHECK(counts.marks_set[HISTORY_REMOTE] == 1 && counts.marks_cleared[HISTORY_REMOTE] == 1);
+    CHECK(counts.marks_kept[HISTORY_LOCAL] == 1 && counts.marks_kept[HISTORY_REMOTE] == 2);
+    CHECK(counts.marks_unseen == 0 && counts.marks_standby == 0);
+    CHECK(counts.claims[HISTORY_THERM2] == 19 && counts.claims[HISTORY_ALERT] == 0);
+
+    /* not under 0, in quarters: 5.75 less 6 degrees is 0, and less 5 degrees is 3 quarters */
+    begin(76);
+    WRITE(0x09, standby ? 0x60 : 0x20, 1);
+    WRITE(0x0D, 5, 1);
+    WRITE(0x13, 0xC0, 1);
+    WRITE(0x21, 6, 1);
+    convert_at(__LINE__, standby, 20, 24, 0, 1, 0);
+    convert_at(__LINE__, standby, 20, 1, 0, 0, 0);
+    CHECK(found_at(AT_RELEASE, BETWEEN));
+    convert_at(__LINE__, standby, 20, 0, 0, 0, 1);
+    CHECK(found_at(AT_RELEASE, AT_RELEASE));
+    WRITE(0x21, 5, 1);
+    convert_at(__LINE__, standby, 20, 24, 0, 1, 0);
+    convert_at(__LINE__, standby, 20, 4, 0, 0, 0);
+    convert_at(__LINE__, standby, 3, 3, 0, 0, 1);
+    WRITE(0x0B, 5, 1);
+    WRITE(0x21, 255, 1);
+    convert_at(__LINE__, standby, 6, 3, 0, 1, 0);
+    convert_at(__LINE__, standby, 1, 3, 0, 0, 0);
+    convert_at(__LINE__, standby, 0, 3, 0, 0, 1);
+}
+
+/* "worked out at the same comparisons as THERM" */
+static void test_marks_compared(void)
+{
+    begin(76);
+    WRITE(0x09, 0x60, 1);
+    WRITE(0x0B, 0, 1);                              /* no channel is converted */
+    CHECK(found_at(NOT_COMPARED, NOT_COMPARED));
+    WRITE(0x0B, 0x55, 1);
+    ONE_SHOT(20, 200, 0, 1, 1);
+    for (int command = 0; command < 256; command++) {
+        bool compares = (command >= 0x0B && command <= 0x0E) || command == 0x13 || command == 0x14
+            || command == 0x19 || command == 0x20 || command == 0x21;
+        int data = command == 0x0B || command == 0x0D ? 0x55 : command == 0x09 ? 0x60 : 0;
+        second_history copy = h;
+        WRITE(command, data, 1);
+        CHECK(compares ? found_at(AT_RELEASE, AT_RELEASE) : found_at(NOT_COMPARED, NOT_COMPARED));
+        h = copy;
+    }
+    WRITE(0x0B, 19, 0);                             /* K12: at once */
+    CHECK(found_at(ABOVE, AT_RELEASE) && marks_are(true, false));
+    WRITE(0x0B, 29, 0);
+    CHECK(found_at(BETWEEN, AT_RELEASE) && marks_are(true, false));
+    WRITE(0x21, 9, 1);
+    CHECK(found_at(AT_RELEASE, AT_RELEASE) && marks_are(false, false));
+    WRITE(0x0D, 49, 0);
+    CHECK(marks_are(false, true) && counts.marks_standby == 3);
+    STATUS_READ(0x50, 0);                           /* no other moment compares */
+    CHECK(found_at(NOT_COMPARED, NOT_COMPARED) && marks_are(false, true));
+    WRITE(0x09, 0x20, 0);
+    WRITE(0x0D, 90, 0);
+    CHECK(found_at(NOT_COMPARED, NOT_COMPARED));
+    TAKE(6, 0, 0, 0, 0, 0, 0);
+    WRITE(0x09, 0x60, 0);                           /* cut short */
+    WRITE(0x09, 0x20, 0);
+    CHECK(marks_are(false, true));
+    CONVERT(20, 200, 0, 0, 1);
+    CHECK(found_at(AT_RELEASE, AT_RELEASE) && marks_are(false, false));
+}
+
+/* "The line is low while either mark is set, whatever bit 7 says"; "The marks are kept up whatever
+   bit 5 says, and are clear at power-on"; "kind 5 is answered only in the ALERT role" */
+static void test_pin_6(void)
+{
+    begin(76);
+    CONVERT(20, 341, 0, 1, 0);                      /* set while bit 5 is 0 */
+    CHECK(marks_are(false, true) && counts.marks_unseen == 1);
+    WRITE(0x09, 0x20, 0);
+    TAKE(5, 0, 0, 0, 3, 0, 0);                      /* the line is low, ALERT is not */
+    CHECK(latch_stands() && counts.therm2_refused == 1 && counts.therm2_low == 2);
+    WRITE(0x09, 0xA0, 0);
+    TAKE(5, 0, 0, 0, 3, 0, 0);
+    CHECK(counts.therm2_refused == 1 && counts.therm2_low_masked == 2);
+    WRITE(0x09, 0x80, 1);
+    CHECK(counts.latch_shown == 0);
+    CONVERT(20, 301, 0, 1, 1);
+    STATUS_READ(0x12, 1);                           /* flag 4 goes, the mark is kept */
+    STATUS_READ(0x02, 1);
+    WRITE(0x09, 0xA0, 0);
+    CONVERT(20, 300, 0, 0, 1);                      /* cleared in the THERM2 role */
+    WRITE(0x09, 0x20, 1);
+    TAKE(5, 0, 0, 0, 3, 0, 1);
+    WRITE(0x09, 0x00, 0);                           /* the latch shows again */
+    CHECK(latch_stands() && counts.latch_shown == 1);
+    TAKE(5, 0, 0, 0, 0, 153, 1);
+    WRITE(0x09, 0x20, 1);
+    CONVERT(86, 341, 0, 1, 0);                      /* set in the THERM2 role, cleared out of it */
+    WRITE(0x09, 0x80, 1);
+    CONVERT(20, 300, 0, 1, 1);
+    WRITE(0x09, 0x20, 1);
+    CHECK(marks_are(false, false) && counts.marks_unseen == 3);
+    CONVERT(86, 341, 0, 1, 0);
+    CHECK(marks_are(true, true));
+    TAKE(0, 1, 0, 0, 2, 0, 0);                      /* refused: no power-on */
+    CHECK(marks_are(true, true));
+    TAKE(0, 0, 0, 0, 0, 0, 1);
+    CHECK(marks_are(false, false) && counts.resets_marked == 1);
+    WRITE(0x09, 0x20, 1);
+    CONVERT(85, 340, 0, 1, 1);                      /* between: kept clear, as at power-on */
+    CHECK(found_at(BETWEEN, BETWEEN) && marks_are(false, false));
+    CHECK(history_end(&h) == 0);
+}
+
+/* "An open diode leaves the remote mark as it was" */
+static void test_marks_held_back(bool standby)
+{
+    begin(76);
+    WRITE(0x09, standby ? 0x60 : 0x20, 1);
+    convert_at(__LINE__, standby, 20, 400, 1, 1, 1);
+    CHECK(found_at(AT_RELEASE, NOT_COMPARED) && marks_are(false, false));
+    convert_at(__LINE__, standby, 20, 341, 0, 1, 0);
+    convert_at(__LINE__, standby, 86, 0, 1, 0, 0);
+    CHECK(found_at(ABOVE, NOT_COMPARED) && marks_are(true, true));
+    convert_at(__LINE__, standby, 75, 0, 1, 0, 0);
+    CHECK(found_at(AT_RELEASE, NOT_COMPARED) && marks_are(false, true));
+    convert_at(__LINE__, standby, 75, 300, 0, 0, 1);
+    CHECK(found_at(AT_RELEASE, AT_RELEASE) && marks_are(false, false));
+    convert_at(__LINE__, standby, 75, 341, 1, 1, 1);
+    CHECK(marks_are(false, false));
+}
+
 void test_history(void)
 {
     test_gone_and_read();
@@ -540,4 +717,10 @@ void test_history(void)
     test_standby_and_row();
     test_comparisons();
     test_reads_and_refusals();
+    test_marks(false);
+    test_marks(true);
+    test_marks_compared();
+    test_pin_6();
+    test_marks_held_back(false);
+    test_marks_held_back(true);
 }

@@ -749,6 +749,9 @@ static void test_session_refusals(void)
     REFUSED_AS(6, "x", 0);
     REFUSED_AS(6, "", 0);
     s = good;
+    s.chip.therm2 = 4;
+    REFUSED_AS(6, "", 0);
+    s = good;
     s.carried_len = 39;
     REFUSED_AS(6, "", 0);
     s.carried_len = UINT32_MAX;

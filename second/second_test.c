@@ -1,4 +1,5 @@
-/* second_test.c - tests from document 01's cases and rules and document 02's Item 3, with the values they expect. */
+/* second_test.c - tests from document 01's cases and rules and document 02's Items 3 and 4, with
+   the values they expect. */
 #include "second.h"
 #include "second_history.h"
 #include "second_test.h"
@@ -125,14 +126,22 @@ static void test_bad_state(void)
         chip.converted = (uint8_t)(1 << bit);
         CHECK(second_step(&chip, 1, 76, 0, 0).code == (bit <= 1 ? 0 : 6));
         chip = fresh();
+        chip.therm2 = (uint8_t)(1 << bit);
+        CHECK(second_step(&chip, 1, 76, 0, 0).code == (bit <= 1 ? 0 : 6));
+        chip = fresh();
         chip.alert_latch = (uint8_t)(1 << bit);
         CHECK(second_step(&chip, 1, 76, 0, 0).code == (bit == 0 ? 0 : 6));
     }
-    /* the lines are read from the refused state */
+    /* the lines are read from the refused state; a bit that is no mark holds none low */
     chip = fresh();
     (void)converting(&chip, 20, 341, 0);
     chip.run = 9;
     STEP(&chip, 8, 0, 0, 0, 6, 0, 0, 0);
+    chip.alert_latch = 0;
+    chip.reg[0x03] = 0x20;
+    STEP(&chip, 8, 0, 0, 0, 6, 0, 0, 0);
+    chip.therm2 = 4;
+    STEP(&chip, 8, 0, 0, 0, 6, 0, 1, 0);
 }
 
 /* ---- the other codes ---- */
@@ -451,7 +460,8 @@ static void test_status(void)
     CHECK(status(&chip) == 0x41);
     STEP(&chip, 5, 0, 0, 0, 0, 153, 1, 0);
 
-    /* bits 7 and 5 of the configuration hold the line high and refuse kind 5, the latch stays */
+    /* bit 7 of the configuration, and bit 5 with no mark set, hold the line high and refuse kind 5;
+       the latch stays */
     for (int bits = 0; bits < 4; bits++) {
         int configuration = (bits & 1 ? 0x80 : 0) | (bits & 2 ? 0x20 : 0);
         chip = fresh();
@@ -790,6 +800,432 @@ static void test_open_diode(void)
     }
 }
 
+/* ---- pin 6 as THERM2: document 02, Item 4 ---- */
+
+static second_chip fresh_therm2(bool standby)
+{
+    second_chip chip = fresh();
+    (void)writing(&chip, 0x09, standby ? 0x60 : 0x20);
+    return chip;
+}
+
+/* Whether a conversion leaves pin 6 so, and these marks: bit 0 local, bit 1 remote. */
+static bool marks_at(second_chip *chip, int32_t local, int32_t remote, int alert, int marks)
+{
+    second_answer answer = converting(chip, local, remote, 0);
+    return answer.code == 0 && answer.reply == 0 && answer.alert == alert && chip->therm2 == marks;
+}
+
+/* "set above the high limit, cleared at or below that limit less the hysteresis (not under 0),
+   otherwise kept" */
+static void test_therm2_marks(bool standby)
+{
+    second_chip chip = fresh_therm2(standby);
+    CHECK(marks_at(&chip, 85, 200, 1, 0));               /* local: 85 and 75 */
+    CHECK(marks_at(&chip, 86, 200, 0, 1));
+    CHECK(marks_at(&chip, 85, 200, 0, 1));
+    CHECK(marks_at(&chip, 76, 200, 0, 1));
+    CHECK(marks_at(&chip, 75, 200, 1, 0));
+    CHECK(marks_at(&chip, 76, 200, 1, 0));
+
+    (void)writing(&chip, 0x0D, 80);                      /* remote, both bytes: 322 and 282 */
+    (void)writing(&chip, 0x13, 0x80);
+    CHECK(marks_at(&chip, 20, 321, 1, 0));
+    CHECK(marks_at(&chip, 20, 322, 1, 0));
+    CHECK(marks_at(&chip, 20, 323, 0, 2));
+    CHECK(marks_at(&chip, 20, 321, 0, 2));
+    CHECK(marks_at(&chip, 20, 283, 0, 2));
+    CHECK(marks_at(&chip, 20, 282, 1, 0));
+    CHECK(marks_at(&chip, 20, 283, 1, 0));
+    CHECK(marks_at(&chip, 20, 312, 1, 0));
+
+    CHECK(marks_at(&chip, 86, 323, 0, 3));               /* either holds the line */
+    CHECK(marks_at(&chip, 76, 282, 0, 1));
+    CHECK(marks_at(&chip, 76, 323, 0, 3));
+    CHECK(marks_at(&chip, 75, 283, 0, 2));
+    CHECK(marks_at(&chip, 75, 282, 1, 0));
+
+    (void)writing(&chip, 0x21, 90);                      /* K9: only at code 0 */
+    CHECK(marks_at(&chip, 86, 323, 0, 3));
+    CHECK(marks_at(&chip, 1, 1, 0, 3));
+    CHECK(marks_at(&chip, 0, 1, 0, 2));
+    CHECK(marks_at(&chip, 0, 0, 1, 0));
+
+    write_uncompared(&chip, 0x0D, 5);                    /* the low byte is under 0 too: 23 - 24 */
+    write_uncompared(&chip, 0x13, 0xC0);
+    write_uncompared(&chip, 0x21, 6);
+    CHECK(marks_at(&chip, 20, 23, 1, 0));
+    CHECK(marks_at(&chip, 20, 24, 0, 2));
+    CHECK(marks_at(&chip, 20, 3, 0, 2));
+    CHECK(marks_at(&chip, 20, 1, 0, 2));
+    CHECK(marks_at(&chip, 20, 0, 1, 0));
+    write_uncompared(&chip, 0x21, 5);                    /* and is not where the rest is not: 3 */
+    CHECK(marks_at(&chip, 20, 24, 0, 2));
+    CHECK(marks_at(&chip, 20, 4, 0, 2));
+    CHECK(marks_at(&chip, 20, 3, 1, 0));
+    write_uncompared(&chip, 0x21, 0);                    /* no hysteresis: nothing is between */
+    CHECK(marks_at(&chip, 20, 24, 0, 2));
+    CHECK(marks_at(&chip, 20, 23, 1, 0));
+
+    /* not by the THERM limits, and THERM not by the high ones */
+    chip = fresh_therm2(standby);
+    (void)writing(&chip, 0x0B, 40);
+    (void)writing(&chip, 0x0D, 40);
+    static const struct { int32_t local, remote; int alert, therm; } cooling[] = {
+        { 40, 160, 1, 1 }, { 41, 160, 0, 1 }, { 85, 160, 0, 1 }, { 86, 160, 0, 0 },
+        { 76, 160, 0, 0 }, { 75, 160, 0, 1 }, { 31, 160, 0, 1 }, { 30, 160, 1, 1 },
+        { 20, 161, 0, 1 }, { 20, 341, 0, 0 }, { 20, 301, 0, 0 }, { 20, 300, 0, 1 },
+        { 20, 121, 0, 1 }, { 20, 120, 1, 1 } };
+    for (size_t i = 0; i < sizeof cooling / sizeof *cooling; i++) {
+        second_answer answer = converting(&chip, cooling[i].local, cooling[i].remote, 0);
+        CHECK(answer.alert == cooling[i].alert && answer.therm == cooling[i].therm);
+    }
+    write_uncompared(&chip, 0x0B, 0xFF);
+    write_uncompared(&chip, 0x0D, 0xFF);
+    CHECK(marks_at(&chip, 86, 341, 1, 0) && (chip.reg[0x02] & 0x03) == 0x03);
+
+    /* at once, whatever number is needed, and not by low faults or the diode */
+    chip = fresh_therm2(standby);
+    (void)writing(&chip, 0x22, 0x0F);
+    CHECK(marks_at(&chip, 86, 200, 0, 1) && chip.alert_latch == 0 && chip.run == 1);
+    CHECK(marks_at(&chip, 0, 0, 1, 0));
+    CHECK(converting(&chip, 0, 0, 1).alert == 1 && chip.alert_latch == 1 && chip.therm2 == 0);
+}
+
+/* Every code, from both states of each mark, against the rule's words: quarters for the remote
+   thresholds, degrees for the local ones. */
+static void test_therm2_codes(void)
+{
+    static const int limits[] = { 0, 1, 3, 23, 24, 202, 340, 511, 765, 1020, 1023 };
+    static const int degrees[] = { 0, 1, 5, 6, 90, 255 };
+
+    for (size_t i = 0; i < sizeof limits / sizeof *limits; i++)
+        for (size_t j = 0; j < sizeof degrees / sizeof *degrees; j++) {
+            int limit = limits[i], less = degrees[j];
+            bool good = true;
+            second_chip start = fresh();
+            (void)writing(&start, 0x09, 0x24);
+            (void)writing(&start, 0x0B, limit / 4);
+            (void)writing(&start, 0x0D, limit / 4);
+            (void)writing(&start, 0x13, limit % 4 * 64);
+            (void)writing(&start, 0x21, less);
+            for (int code = 0; code < 1024; code++)
+                for (int marks = 0; marks < 4; marks++) {
+                    second_chip chip = start;
+                    int local = marks & 1, remote = marks & 2;
+                    if (code / 4 > limit / 4)
+                        local = 1;
+                    else if (code / 4 == 0 || code / 4 + less <= limit / 4)
+                        local = 0;
+                    if (code > limit)
+                        remote = 2;
+                    else if (code == 0 || code + 4 * less <= limit)
+                        remote = 0;
+                    chip.therm2 = (uint8_t)marks;
+                    int line = (local | remote) == 0;
+                    good = good && marks_at(&chip, code / 4 - 64, code - 256, line, local | remote);
+                }
+            CHECK(good);
+        }
+}
+
+/* "worked out at the same comparisons as THERM": at exactly nine writes in standby, for each
+   channel converted, in either role. The values that change the marks come by the back door. */
+static void test_therm2_compared(void)
+{
+    for (int command = 0; command < 256; command++)
+        for (int bits = 0; bits < 4; bits++)
+            for (int channels = 0; channels <= 3; channels++) {
+                if (channels == 2)
+                    continue;                            /* no run converts the remote one alone */
+                bool limit = (command >= 0x0B && command <= 0x0E) || command == 0x13
+                    || command == 0x14 || command == 0x19 || command == 0x20 || command == 0x21;
+                bool kept = command >= 0x09 && command <= 0x22;
+                int compared = limit && (bits & 1) ? channels : 0;
+                int role = bits & 2 ? 0x20 : 0;
+                second_chip chip = fresh();
+                if (channels != 0)
+                    (void)converting(&chip, 20, 200, channels == 1);
+                (void)writing(&chip, 0x09, (bits & 1 ? 0x40 : 0) | role);
+                int data = kept ? standing_limit(&chip, command) : 0x50;
+                chip.therm2 = 0;
+                chip.alert_latch = 0;
+                second_chip high = chip, low = chip;
+                high.reg[0x00] = 86;
+                high.reg[0x01] = 86;
+                (void)writing(&high, command, data);
+                CHECK(high.therm2 == compared && (high.reg[0x02] & 0x03) == compared);
+                low.reg[0x00] = 75;
+                low.reg[0x01] = 75;
+                low.therm2 = 3;
+                low.reg[0x02] |= 0x03;
+                (void)writing(&low, command, data);
+                CHECK(low.therm2 == (3 & ~compared) && (low.reg[0x02] & 0x03) == (3 & ~compared));
+            }
+
+    /* K12 in the THERM2 role, with the new byte in place */
+    second_chip chip = fresh_therm2(true);
+    STEP(&chip, 2, 76, 0x0D, 0, 0, 0, 1, 1);             /* not converted */
+    STEP(&chip, 2, 76, 0x0D, 50, 0, 0, 1, 1);
+    (void)converting(&chip, 20, 202, 0);
+    CHECK(chip.therm2 == 2);
+    STEP(&chip, 2, 76, 0x13, 0x80, 0, 0, 0, 1);          /* 202 is not above 202, above 162 */
+    STEP(&chip, 2, 76, 0x21, 0, 0, 0, 1, 1);             /* at 202 */
+    STEP(&chip, 2, 76, 0x13, 0x40, 0, 0, 0, 1);
+    STEP(&chip, 2, 76, 0x0D, 55, 0, 0, 1, 1);
+    STEP(&chip, 2, 76, 0x0B, 19, 0, 0, 0, 1);
+    STEP(&chip, 2, 76, 0x0B, 20, 0, 0, 1, 1);
+    /* while a one-shot runs, on the values stored before */
+    STEP(&chip, 2, 76, 0x0F, 0, 0, 0, 1, 1);
+    STEP(&chip, 2, 76, 0x0B, 19, 0, 0, 0, 1);
+    STEP(&chip, 7, 19, 202, 0, 0, 0, 1, 1);
+
+    /* no other moment: out of standby the mark stays until the next conversion */
+    chip = fresh_therm2(false);
+    (void)converting(&chip, 20, 200, 0);
+    STEP(&chip, 2, 76, 0x0B, 10, 0, 0, 1, 1);
+    STEP(&chip, 2, 76, 0x21, 0, 0, 0, 1, 1);
+    STEP(&chip, 3, 76, 0x02, 0, 0, 0, 1, 1);
+    STEP(&chip, 2, 76, 0x09, 0x60, 0, 0, 1, 1);
+    STEP(&chip, 2, 76, 0x09, 0x20, 0, 0, 1, 1);
+    STEP(&chip, 5, 0, 0, 0, 3, 0, 1, 1);
+    STEP(&chip, 6, 0, 0, 0, 0, 0, 1, 1);
+    STEP(&chip, 7, 20, 200, 0, 0, 0, 0, 1);
+    STEP(&chip, 2, 76, 0x0B, 0x55, 0, 0, 0, 1);
+    STEP(&chip, 6, 0, 0, 0, 0, 0, 0, 1);
+    STEP(&chip, 2, 76, 0x09, 0x60, 0, 0, 0, 1);          /* cut short: no result */
+    STEP(&chip, 2, 76, 0x09, 0x24, 0, 0, 0, 1);          /* another range: not until it converts */
+    STEP(&chip, 6, 0, 0, 0, 0, 0, 0, 1);
+    STEP(&chip, 7, 21, 60, 0, 0, 0, 1, 1);
+    STEP(&chip, 6, 0, 0, 0, 0, 0, 1, 1);
+    STEP(&chip, 7, 22, 60, 0, 0, 0, 0, 0);
+}
+
+/* "The line is low while either mark is set, whatever bit 7 says"; "the answer's alert line then
+   reports pin 6 in either role, while kind 5 is answered only in the ALERT role": every case */
+static void test_therm2_line(void)
+{
+    for (int marks = 0; marks < 4; marks++)
+        for (int configuration = 0; configuration < 0x100; configuration++)
+            for (int latch = 0; latch <= 1; latch++) {
+                if ((configuration & ~0xE4) != 0)
+                    continue;
+                second_chip chip = fresh();
+                chip.reg[0x03] = (uint8_t)configuration;
+                chip.therm2 = (uint8_t)marks;
+                chip.alert_latch = (uint8_t)latch;
+                second_chip asked = chip;
+                bool alert_low = latch == 1 && (configuration & 0xA0) == 0;
+                int line = configuration & 0x20 ? marks == 0 : !alert_low;
+                STEP(&chip, 1, 76, 0x02, 0, 0, 0, line, 1);
+                STEP(&chip, 1, 77, 0x02, 0, 3, 0, line, 1);
+                STEP(&chip, 9, 0, 0, 0, 1, 0, line, 1);
+                STEP(&chip, 3, 76, 0x02, 0, 0, 0, line, 1);
+                if (alert_low)
+                    STEP(&asked, 5, 0, 0, 0, 0, 153, 1, 1);
+                else
+                    STEP(&asked, 5, 0, 0, 0, 3, 0, line, 1);
+                CHECK(asked.therm2 == marks);
+
+                /* the other role has the same marks and the same latch */
+                int other = configuration ^ 0x20;
+                alert_low = latch == 1 && (other & 0xA0) == 0;
+                line = other & 0x20 ? marks == 0 : !alert_low;
+                STEP(&chip, 2, 76, 0x09, other, 0, 0, line, 1);
+                CHECK(chip.therm2 == marks && chip.alert_latch == latch);
+                chip.run = 5;                            /* read from a refused state too */
+                STEP(&chip, 0, 0, 0, 0, 6, 0, line, 1);
+            }
+}
+
+/* "Status flags 6 and 4 stay latched as before": the same replies in both roles */
+static void test_therm2_flags(bool standby)
+{
+    for (int role = 0; role <= 0x20; role += 0x20) {
+        int low = role == 0x20 ? 0 : 1;                  /* the line while a mark is set */
+        second_chip chip = fresh();
+        (void)writing(&chip, 0x09, 0x80 | (standby ? 0x40 : 0) | role);
+        (void)writing(&chip, 0x19, 0xFF);
+        (void)writing(&chip, 0x20, 0xFF);
+        CHECK(marks_at(&chip, 86, 341, low, 3));
+        CHECK(status(&chip) == 0x50 && status(&chip) == 0x50);
+        CHECK(marks_at(&chip, 76, 301, low, 3));         /* the flags go, the marks are kept */
+        CHECK(status(&chip) == 0x50 && status(&chip) == 0x00);
+        CHECK(second_step(&chip, 1, 76, 0, 0).alert == low && chip.therm2 == 3);
+        CHECK(marks_at(&chip, 75, 300, 1, 0));
+        CHECK(status(&chip) == 0x00);
+        CHECK(marks_at(&chip, 86, 341, low, 3));
+        CHECK(marks_at(&chip, 75, 300, 1, 0));           /* the marks go, the flags stand */
+        CHECK(chip.reg[0x02] == 0x50 && status(&chip) == 0x50 && status(&chip) == 0x00);
+        CHECK(marks_at(&chip, 0, 0, 1, 0));
+        CHECK(status(&chip) == 0x28 && status(&chip) == 0x28);
+        CHECK(converting(&chip, 20, 200, 1).alert == 1);
+        CHECK(status(&chip) == 0x2C && status(&chip) == 0x0C);
+        CHECK(chip.alert_latch == 1);
+    }
+}
+
+/* "The marks are kept up whatever bit 5 says, and are clear at power-on" */
+static void test_therm2_kept_up(bool standby)
+{
+    enum { MASKED = 0x80, ROLE = 0x20 };
+    int base = standby ? 0x40 : 0;
+
+    /* set, kept and cleared while bit 5 is 0, behind a masked ALERT */
+    second_chip chip = fresh();
+    (void)writing(&chip, 0x09, base | MASKED);
+    CHECK(marks_at(&chip, 86, 200, 1, 1));
+    CHECK(writing(&chip, 0x09, base | ROLE).alert == 0);
+    CHECK(writing(&chip, 0x09, base | MASKED).alert == 1 && chip.therm2 == 1);
+    CHECK(marks_at(&chip, 76, 341, 1, 3));
+    CHECK(writing(&chip, 0x09, base | ROLE).alert == 0 && chip.therm2 == 3);
+    CHECK(writing(&chip, 0x09, base | MASKED).alert == 1 && chip.therm2 == 3);
+    CHECK(marks_at(&chip, 75, 300, 1, 0));
+    CHECK(writing(&chip, 0x09, base | ROLE).alert == 1 && chip.therm2 == 0);
+    CHECK(marks_at(&chip, 76, 301, 1, 0));               /* between: kept clear */
+
+    /* a change of bit 5 changes nothing else, nor compares, where the limits have moved */
+    CHECK(marks_at(&chip, 86, 341, 0, 3));
+    write_uncompared(&chip, 0x0B, 0xFF);
+    write_uncompared(&chip, 0x0D, 0xFF);
+    second_chip before = chip;
+    for (int i = 0; i < 4; i++) {
+        (void)writing(&chip, 0x09, base | (i % 2 ? ROLE : 0));
+        before.reg[0x03] = chip.reg[0x03];
+        before.pointer = chip.pointer;
+        CHECK(memcmp(&before, &chip, sizeof chip) == 0);
+    }
+
+    /* power-on, and what lies between the thresholds after it; a refused one is none */
+    STEP(&chip, 0, 0, 0, 1, 2, 0, 0, 0);
+    CHECK(chip.therm2 == 3);
+    STEP(&chip, 0, 0, 0, 0, 0, 0, 1, 1);
+    before = fresh();
+    CHECK(memcmp(&before, &chip, sizeof chip) == 0 && chip.therm2 == 0);
+    (void)writing(&chip, 0x09, base | ROLE);
+    CHECK(marks_at(&chip, 85, 340, 1, 0));
+}
+
+/* "An open diode leaves the remote mark as it was (item 3)." */
+static void test_therm2_open(bool standby)
+{
+    for (int i = 0; i < OPEN_SAMPLES; i++) {
+        second_chip chip = fresh_therm2(standby);
+        CHECK(converting(&chip, 20, open_samples[i], 1).alert == 1 && chip.therm2 == 0);
+        (void)converting(&chip, 20, 200, 0);
+        CHECK(converting(&chip, 20, open_samples[i], 1).alert == 1 && chip.therm2 == 0);
+        CHECK(converting(&chip, 86, open_samples[i], 1).alert == 0 && chip.therm2 == 1);
+        (void)converting(&chip, 76, 341, 0);
+        CHECK(converting(&chip, 76, open_samples[i], 1).alert == 0 && chip.therm2 == 3);
+        CHECK(converting(&chip, 75, open_samples[i], 1).alert == 0 && chip.therm2 == 2);
+        CHECK(converting(&chip, 75, open_samples[i], 1).alert == 0 && chip.therm2 == 2);
+        CHECK(converting(&chip, 86, open_samples[i], 1).alert == 0 && chip.therm2 == 3);
+        CHECK(marks_at(&chip, 75, 301, 0, 2) && marks_at(&chip, 75, 300, 1, 0));
+    }
+    /* nor is the kept value compared where its limit or the hysteresis has moved */
+    second_chip chip = fresh_therm2(standby);
+    (void)converting(&chip, 20, 200, 0);
+    write_uncompared(&chip, 0x0D, 40);
+    CHECK(converting(&chip, 20, 200, 1).alert == 1 && chip.therm2 == 0);
+    CHECK(marks_at(&chip, 20, 200, 0, 2));
+    write_uncompared(&chip, 0x0D, 60);
+    CHECK(converting(&chip, 20, 200, 1).alert == 0 && chip.therm2 == 2);
+    /* at a limit write in standby it is, if an earlier conversion was good */
+    (void)writing(&chip, 0x09, 0x60);
+    STEP(&chip, 2, 76, 0x0D, 60, 0, 0, 1, 1);
+    STEP(&chip, 2, 76, 0x0D, 49, 0, 0, 0, 1);
+    chip = fresh_therm2(standby);
+    (void)converting(&chip, 20, 200, 1);
+    (void)writing(&chip, 0x09, 0x60);
+    chip.reg[0x01] = 50;
+    chip.therm2 = 2;
+    STEP(&chip, 2, 76, 0x0B, 19, 0, 0, 0, 1);
+    CHECK(chip.therm2 == 3);
+    STEP(&chip, 2, 76, 0x0B, 40, 0, 0, 0, 1);
+    CHECK(chip.therm2 == 2);
+}
+
+/* "kind 5 is answered only in the ALERT role; the latch is kept as ever and shows when bit 5 goes
+   back to 0" */
+static void test_therm2_latch(bool standby)
+{
+    int base = standby ? 0x40 : 0;
+
+    /* set before the role changes, with a mark and without one */
+    for (int marked = 0; marked <= 1; marked++) {
+        second_chip chip = fresh_in(standby);
+        CHECK(converting(&chip, marked ? 86 : 0, 200, 0).alert == 0);
+        int therm = !marked;
+        STEP(&chip, 2, 76, 0x09, base | 0x20, 0, 0, !marked, therm);
+        STEP(&chip, 5, 0, 0, 0, 3, 0, !marked, therm);
+        STEP(&chip, 2, 76, 0x09, base | 0xA0, 0, 0, !marked, therm);
+        STEP(&chip, 5, 0, 0, 0, 3, 0, !marked, therm);
+        STEP(&chip, 2, 76, 0x09, base | 0x80, 0, 0, 1, therm);
+        STEP(&chip, 5, 0, 0, 0, 3, 0, 1, therm);
+        STEP(&chip, 2, 76, 0x09, base, 0, 0, 0, therm);
+        STEP(&chip, 5, 0, 0, 0, 0, 153, 0, therm);       /* the flag stands */
+        /* nor is it cleared in the other role once the flags are 0 */
+        STEP(&chip, 2, 76, 0x09, base | 0x20, 0, 0, !marked, therm);
+        CHECK(marks_at(&chip, 20, 200, 1, 0));
+        CHECK((status(&chip) & 0x7C) != 0 && status(&chip) == 0);
+        STEP(&chip, 5, 0, 0, 0, 3, 0, 1, 1);
+        STEP(&chip, 2, 76, 0x09, base, 0, 0, 0, 1);
+        STEP(&chip, 5, 0, 0, 0, 0, 153, 1, 1);
+        STEP(&chip, 5, 0, 0, 0, 3, 0, 1, 1);
+    }
+
+    /* set in the THERM2 role: by the row, by the diode, in standby */
+    second_chip chip = fresh_therm2(standby);
+    (void)writing(&chip, 0x22, 0x03);
+    CHECK(marks_at(&chip, 0, 200, 1, 0) && chip.alert_latch == 0);
+    CHECK(marks_at(&chip, 0, 200, 1, 0) && chip.alert_latch == 1);
+    CHECK(writing(&chip, 0x09, base).alert == 0);
+    chip = fresh_therm2(standby);
+    CHECK(converting(&chip, 20, 200, 1).alert == 1);
+    CHECK(writing(&chip, 0x09, base).alert == 0);
+    chip = fresh_therm2(standby);
+    CHECK(marks_at(&chip, 20, 200, 1, 0));
+    (void)writing(&chip, 0x09, 0x60);
+    CHECK(writing(&chip, 0x0C, 20).alert == 1 && writing(&chip, 0x09, 0x40).alert == 0);
+
+    /* a mark sets no latch: pin 6 is low, and ALERT is not when the role goes back */
+    chip = fresh_therm2(standby);
+    (void)writing(&chip, 0x22, 0x0F);
+    CHECK(marks_at(&chip, 86, 341, 0, 3));
+    STEP(&chip, 5, 0, 0, 0, 3, 0, 0, 0);
+    STEP(&chip, 2, 76, 0x09, base, 0, 0, 1, 0);
+    STEP(&chip, 5, 0, 0, 0, 3, 0, 1, 0);
+    CHECK(chip.therm2 == 3);
+}
+
+/* A fan on pin 6, told as a trace: 60.25 degrees, released at 50.25. */
+#define FAN RECORD(2, 76, 9, 32) RECORD(2, 76, 13, 60) RECORD(2, 76, 19, 64) \
+    RECORD(6, 0, 0, 0) RECORD(7, 20, 241, 0) RECORD(6, 0, 0, 0) RECORD(7, 20, 242, 0) \
+    RECORD(5, 0, 0, 0) RECORD(2, 76, 9, 160) RECORD(6, 0, 0, 0) RECORD(7, 20, 202, 0) \
+    RECORD(3, 76, 2, 0) RECORD(3, 76, 2, 0) RECORD(6, 0, 0, 0) RECORD(7, 20, 0, 1) \
+    RECORD(6, 0, 0, 0) RECORD(7, 20, 201, 0) RECORD(3, 76, 2, 0) RECORD(2, 76, 9, 128) \
+    RECORD(2, 76, 9, 0) RECORD(5, 0, 0, 0) RECORD(2, 76, 9, 32)
+#define FAN_ANSWERS ANSWER(0, 0, 1, 1) ANSWER(0, 0, 1, 1) ANSWER(0, 0, 1, 1) \
+    ANSWER(0, 0, 1, 1) ANSWER(0, 0, 1, 1) ANSWER(0, 0, 1, 1) ANSWER(0, 0, 0, 1) \
+    ANSWER(3, 0, 0, 1) ANSWER(0, 0, 0, 1) ANSWER(0, 0, 0, 1) ANSWER(0, 0, 0, 1) \
+    ANSWER(0, 16, 0, 1) ANSWER(0, 0, 0, 1) ANSWER(0, 0, 0, 1) ANSWER(0, 0, 0, 1) \
+    ANSWER(0, 0, 0, 1) ANSWER(0, 0, 1, 1) ANSWER(0, 4, 1, 1) ANSWER(0, 0, 1, 1) \
+    ANSWER(0, 0, 0, 1) ANSWER(0, 153, 1, 1) ANSWER(0, 0, 1, 1)
+
+static void test_therm2(void)
+{
+    test_therm2_codes();
+    test_therm2_compared();
+    test_therm2_line();
+    for (int standby = 0; standby <= 1; standby++) {
+        test_therm2_marks(standby);
+        test_therm2_flags(standby);
+        test_therm2_kept_up(standby);
+        test_therm2_open(standby);
+        test_therm2_latch(standby);
+    }
+}
+
 /* ---- values ---- */
 
 static int remote_code(int configuration, int high, int low, int32_t measured)
@@ -1015,6 +1451,7 @@ static void test_replay(void)
     ANSWER(0, 0, 1, 1) ANSWER(4, 0, 1, 1) ANSWER(0, 0, 0, 1) ANSWER(0, 36, 0, 1) ANSWER(0, 81, 0, 1)
     REPLAY(REFUSED, ROOM, 0, 13, (uint32_t)strlen(REFUSED), REFUSED_ANSWERS);
     REPLAY(PULLED, ROOM, 0, 14, (uint32_t)strlen(PULLED), PULLED_ANSWERS);
+    REPLAY(FAN, ROOM, 0, 22, (uint32_t)strlen(FAN), FAN_ANSWERS);
 
     /* the same trace, address 77 */
     replay_at(__LINE__, 77, RECORD(3, 76, 254, 0) RECORD(3, 77, 254, 0), 44, ROOM, 0, 2, 44,
@@ -1224,6 +1661,57 @@ static void test_counters(void)
     (void)converting(&chip, 20, 0, 0);
     (void)converting(&chip, 20, 200, 1);
     CHECK(seen->held_unconverted == 1 && seen->held_fault == 2 && seen->held_therm == 2 && seen->converted_open == 4);
+
+    /* pin 6 as THERM2: a mark set unseen, kept, held back, cleared in standby */
+    memset(&second_seen_counts, 0, sizeof second_seen_counts);
+    chip = fresh();
+    (void)converting(&chip, 80, 341, 0);
+    CHECK(seen->mark_set[1] == 1 && seen->mark_set_unseen[1] == 1 && seen->mark_set[0] == 0);
+    CHECK(seen->mark_kept_clear[0] == 1 && seen->mark_kept_clear[1] == 0 && seen->therm2_low == 0);
+    (void)writing(&chip, 0x09, 0x20);
+    CHECK(seen->therm2_begun_low == 1 && seen->therm2_low == 1 && seen->therm2_low_masked == 0);
+    (void)second_step(&chip, 5, 0, 0, 0);
+    (void)second_step(&chip, 5, 0, 0, 1);                /* code 2 */
+    CHECK(seen->therm2_no_ack == 1 && seen->therm2_no_ack_low == 1 && seen->therm2_low == 3);
+    (void)converting(&chip, 86, 200, 1);
+    CHECK(seen->held_mark == 1 && seen->held_mark_local == 1 && seen->mark_set[0] == 1);
+    (void)converting(&chip, 76, 200, 1);
+    CHECK(seen->held_mark == 2 && seen->held_mark_local == 1 && seen->mark_kept[0] == 1);
+    CHECK(seen->mark_kept[1] == 0 && seen->mark_set_unseen[0] == 0);
+    (void)writing(&chip, 0x09, 0xE0);
+    CHECK(seen->therm2_low_masked == 1 && seen->therm2_begun_low == 1);
+    (void)second_step(&chip, 5, 0, 0, 0);
+    CHECK(seen->therm2_no_ack == 1 && seen->therm2_no_ack_low == 2 && seen->therm2_low_masked == 2);
+    (void)writing(&chip, 0x0B, 0xFF);
+    CHECK(seen->mark_cleared[0] == 1 && seen->mark_cleared_standby[0] == 1);
+    CHECK(seen->mark_kept[1] == 0 && seen->mark_cleared_unseen[0] == 0);
+    (void)writing(&chip, 0x0D, 0xFF);
+    CHECK(seen->mark_cleared_standby[1] == 1 && seen->therm2_high_latched == 0);
+    (void)writing(&chip, 0x0D, 20);
+    CHECK(seen->mark_set_standby[1] == 1 && seen->mark_set[1] == 2);
+    CHECK(seen->mark_set_unseen[1] == 1 && seen->mark_set_standby[0] == 0);
+    (void)writing(&chip, 0x09, 0x80);
+    CHECK(seen->latch_shown == 0);
+    (void)writing(&chip, 0x21, 21);
+    (void)converting(&chip, 1, 1, 0);
+    CHECK(seen->mark_kept[1] == 1 && seen->mark_cleared_at_0[1] == 0);
+    (void)converting(&chip, 1, 0, 0);
+    CHECK(seen->mark_cleared_at_0[1] == 1 && seen->mark_cleared_unseen[1] == 1);
+    CHECK(seen->mark_cleared_at_0[0] == 0 && seen->mark_cleared[1] == 2);
+    (void)writing(&chip, 0x09, 0x20);
+    CHECK(seen->therm2_begun_low == 1 && seen->therm2_high_latched == 1);
+    (void)second_step(&chip, 5, 0, 0, 0);
+    CHECK(seen->therm2_no_ack == 2 && seen->therm2_no_ack_low == 2);
+    CHECK(seen->therm2_high_latched == 2);
+    (void)writing(&chip, 0x09, 0x00);
+    CHECK(seen->latch_shown == 1);
+    (void)writing(&chip, 0x21, 20);                      /* not over the limit, and at code 0 */
+    (void)converting(&chip, 1, 81, 0);
+    (void)converting(&chip, 1, 0, 0);
+    CHECK(seen->mark_cleared[1] == 3 && seen->mark_cleared_at_0[1] == 1);
+    (void)converting(&chip, 1, 81, 0);
+    (void)second_step(&chip, 0, 0, 0, 0);                /* a power-on counts nowhere */
+    CHECK(seen->mark_set[1] == 4 && seen->mark_cleared[1] == 3 && seen->latch_shown == 1);
 }
 
 /* ---- random walks: what must hold of any run ---- */
@@ -1242,6 +1730,7 @@ static bool holds_back(const second_chip *before, const second_chip *after, int3
         && before->reg[0x01] == after->reg[0x01] && before->reg[0x10] == after->reg[0x10]
         && (held & REMOTE_BITS) == 0 && (before->found & 0x18) == (after->found & 0x18)
         && after->converted == (before->converted | 1)
+        && (before->therm2 & 2) == (after->therm2 & 2) && (good.therm2 & 1) == (after->therm2 & 1)
         && (same & LOCAL_BITS) == 0 && good.reg[0x00] == after->reg[0x00]
         && (good.found & 0x60) == (after->found & 0x60)
         && (after->reg[0x02] & 0x84) == 0x04 && (after->found & 0x04) != 0
@@ -1295,8 +1784,9 @@ static void test_walks(void)
             second_answer answer = second_step(&chip, kind, a, b, c);
             steady = steady && answer.code != 6
                 && (answer.code == 0 || memcmp(&before, &chip, sizeof chip) == 0);
+            int alert = !(chip.alert_latch && (chip.reg[3] & 0x80) == 0);
             lines = lines && answer.therm == ((chip.reg[2] & 3) == 0)
-                && answer.alert == !(chip.alert_latch && (chip.reg[3] & 0xA0) == 0);
+                && answer.alert == (chip.reg[3] & 0x20 ? chip.therm2 == 0 : alert);
             if (kind == 7 && c == 1 && answer.code == 0)
                 held_back = held_back && holds_back(&before, &chip, a, b);
             wrong |= history_take(&history, kind, a, b, c, answer);
@@ -1321,6 +1811,85 @@ static void test_walks(void)
     }
 }
 
+/* Walks that change roles and limits often. The marks are those the history works out; a twin told
+   the same with bits 7 and 5 always 0 has all the same but them and the latch; and the counters of
+   chip and history agree. */
+static void test_therm2_walks(void)
+{
+    static const int commands[] = { 0x09, 0x09, 0x09, 0x0B, 0x0C, 0x0D, 0x0E, 0x0F, 0x0F, 0x13,
+                                    0x14, 0x19, 0x20, 0x21, 0x22 };
+    static const int32_t kinds[] = { 2, 2, 2, 3, 5, 6, 6, 7, 7, 7 };
+    static history_moment list[2000];
+    history_counts counts;
+    const second_seen *seen = &second_seen_counts;
+
+    memset(&counts, 0, sizeof counts);
+    memset(&second_seen_counts, 0, sizeof second_seen_counts);
+    for (int walk = 0; walk < 20; walk++) {
+        second_chip chip = fresh(), twin = fresh();
+        second_history history;
+        history_begin(&history, 76, list, sizeof list / sizeof *list, &counts);
+        bool marks = true, same = true;
+        unsigned wrong = 0;
+        for (int i = 0; i < 2000; i++) {
+            int32_t kind = random_number(200) ? kinds[random_number(10)] : 0, a = 0, b = 0, c = 0;
+            if (kind == 2 || kind == 3)
+                a = random_number(30) ? 76 : 77;
+            if (kind == 3)
+                b = 2;
+            if (kind == 2) {
+                b = commands[random_number(15)];
+                c = (int32_t)random_number(b == 0x09 || b == 0x13 || b == 0x14 ? 256 : 64);
+            }
+            if (kind == 7) {
+                a = (int32_t)random_number(80) - 10;
+                b = (int32_t)random_number(320) - 40;
+                c = random_number(4) == 0;
+            }
+            second_answer answer = second_step(&chip, kind, a, b, c);
+            wrong |= history_take(&history, kind, a, b, c, answer);
+            int stand = history_mark_stands(&history, HISTORY_LOCAL, history.length)
+                | history_mark_stands(&history, HISTORY_REMOTE, history.length) << 1;
+            marks = marks && chip.therm2 == stand;
+
+            second_seen kept = second_seen_counts;
+            (void)second_step(&twin, kind, a, b, kind == 2 && b == 0x09 ? c & ~0xA0 : c);
+            second_seen_counts = kept;
+            second_chip alike = chip;
+            alike.reg[0x03] &= 0x44;
+            alike.alert_latch = twin.alert_latch;
+            same = same && memcmp(&alike, &twin, sizeof twin) == 0;
+        }
+        CHECK((wrong | history_end(&history)) == 0);
+        CHECK(marks);
+        CHECK(same);
+    }
+
+    for (int i = 0; i < 2; i++) {
+        CHECK(seen->mark_set[i] == counts.marks_set[i]);
+        CHECK(seen->mark_cleared[i] == counts.marks_cleared[i]);
+        CHECK(seen->mark_kept[i] == counts.marks_kept[i] && seen->mark_kept[i] > 0);
+        CHECK(seen->mark_set_unseen[i] > 0 && seen->mark_cleared_unseen[i] > 0);
+        CHECK(seen->mark_set_standby[i] > 0 && seen->mark_cleared_standby[i] > 0);
+        CHECK(seen->mark_set[i] > seen->mark_set_unseen[i]);
+        CHECK(seen->mark_cleared[i] > seen->mark_cleared_unseen[i]);
+        CHECK(seen->mark_cleared_at_0[i] > 0 && seen->mark_kept_clear[i] > 0);
+    }
+    CHECK(seen->mark_set_unseen[0] + seen->mark_set_unseen[1] + seen->mark_cleared_unseen[0]
+          + seen->mark_cleared_unseen[1] == counts.marks_unseen);
+    CHECK(seen->mark_set_standby[0] + seen->mark_set_standby[1] + seen->mark_cleared_standby[0]
+          + seen->mark_cleared_standby[1] == counts.marks_standby);
+    CHECK(seen->therm2_low == counts.therm2_low);
+    CHECK(seen->therm2_low_masked == counts.therm2_low_masked);
+    CHECK(seen->therm2_no_ack == counts.therm2_refused && seen->latch_shown == counts.latch_shown);
+    CHECK(counts.therm2_low > counts.therm2_low_masked && counts.therm2_low_masked > 0);
+    CHECK(counts.therm2_refused > 0 && counts.latch_shown > 0 && counts.resets_marked > 0);
+    CHECK(seen->held_mark > seen->held_mark_local && seen->held_mark_local > 0);
+    CHECK(seen->therm2_high_latched > 0 && seen->therm2_no_ack_low > 0);
+    CHECK(seen->therm2_begun_low > 0);
+    CHECK(counts.claims[HISTORY_ALERT] > 0 && counts.claims[HISTORY_THERM2] > 0);
+}
+
 int main(void)
 {
     test_fresh();
@@ -1330,6 +1899,7 @@ int main(void)
     test_standby();
     test_status();
     test_open_diode();
+    test_therm2();
     test_values();
     test_bench_cases();
     test_replay();
@@ -1338,6 +1908,7 @@ int main(void)
     test_refused_replay();
     test_counters();
     test_walks();
+    test_therm2_walks();
     test_history();
     test_session();
     printf("%d passed, %d failed\n", passed, failed);

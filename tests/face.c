@@ -65,7 +65,7 @@ static event next_event(void)
     case 7: case 8: case 9: case 10: return (event){ 6, 0, 0, 0 };
     case 11: case 12: case 13: case 14: case 15: case 16: return (event){ 7, (int32_t)any(200) - 60, (int32_t)any(700) - 200, any(8) == 0 };
     case 17: case 18: case 19: case 20: return (event){ 3, address, 0x02, 0 };
-    case 21: case 22: case 23: return (event){ 2, address, 0x09, any(4) ? 0x40 : (int32_t)any(256) };
+    case 21: case 22: case 23: return (event){ 2, address, 0x09, any(4) ? (any(2) ? 0x40 : 0x60) : (int32_t)any(256) };
     case 24: case 25: case 26: case 27: return (event){ 3, address, command, 0 };
     default: return (event){ 2, address, command, any(2) ? (int32_t)any(128) : (int32_t)any(256) };
     }
@@ -175,9 +175,10 @@ static void judged(const uint8_t *bytes)
     code = dlaveth_event(chip, sizeof chip, e.kind, e.a, e.b, e.c, answer, sizeof answer);
     if (chip_is_saved(bytes)) {
         unsigned config = bytes[CHIP_REGISTERS_AT];
+        bool low = config & 0x20 ? bytes[CHIP_LOCAL_AT + 10] || bytes[CHIP_REMOTE_AT + 10] : bytes[5] && !(config & 0x80);    /* pin 6 by its role */
 
         ill++;
-        check("a state that is not well formed", same(answer, 6, 0, !(bytes[5] && !(config & 0x80) && !(config & 0x20)), !(bytes[CHIP_LOCAL_AT + 9] || bytes[CHIP_REMOTE_AT + 9])));
+        check("a state that is not well formed", same(answer, 6, 0, !low, !(bytes[CHIP_LOCAL_AT + 9] || bytes[CHIP_REMOTE_AT + 9])));
     } else {
         strange++;
         check("bytes that are no chip", same(answer, 6, 0, 1, 1));

@@ -49,6 +49,7 @@ static void show_commands(const char *what, const uint64_t numbers[256])
 
 #define SHOW_EACH(what, names, numbers) show_each(what, names, numbers, sizeof(names) / sizeof *(names))
 
+static const char *const channels[] = {"local", "remote"};
 static const char *const flags[] = {"open", "remote low", "remote high", "local low", "local high"};
 
 /* What the second model counted. */
@@ -79,6 +80,24 @@ static void show_seen(const second_seen *seen)
     show("conversion started", "by a one-shot", seen->one_shots);
     show("standby comparison", "", seen->standby_compares);
     show("standby comparison", "local alone", seen->standby_local_only);
+    SHOW_EACH("mark set", channels, seen->mark_set);
+    SHOW_EACH("mark set, bit 5 at 0", channels, seen->mark_set_unseen);
+    SHOW_EACH("mark set in standby", channels, seen->mark_set_standby);
+    SHOW_EACH("mark kept", channels, seen->mark_kept);
+    SHOW_EACH("mark kept clear", channels, seen->mark_kept_clear);
+    SHOW_EACH("mark cleared", channels, seen->mark_cleared);
+    SHOW_EACH("mark cleared, bit 5 at 0", channels, seen->mark_cleared_unseen);
+    SHOW_EACH("mark cleared in standby", channels, seen->mark_cleared_standby);
+    SHOW_EACH("mark cleared at code 0", channels, seen->mark_cleared_at_0);
+    show("open diode held back", "remote mark", seen->held_mark);
+    show("open diode held back", "the same, local moved", seen->held_mark_local);
+    show("pin 6 as THERM2", "low", seen->therm2_low);
+    show("pin 6 as THERM2", "low, bit 7 set", seen->therm2_low_masked);
+    show("pin 6 as THERM2", "high, latch set", seen->therm2_high_latched);
+    show("pin 6 as THERM2", "low by its first write", seen->therm2_begun_low);
+    show("alert response as THERM2", "latch set", seen->therm2_no_ack);
+    show("alert response as THERM2", "line low", seen->therm2_no_ack_low);
+    show("bit 5 back to 0", "the latch shows", seen->latch_shown);
 }
 
 static void show_both(const char *what, const char *which, uint64_t model, uint64_t second)
@@ -94,7 +113,7 @@ static void show_both(const char *what, const char *which, uint64_t model, uint6
 static void show_alarms(void)
 {
     static const char *const names[HISTORY_CLAIMS] = {
-        "status read", "spells", "alert line", "alert response", "refused event", "code 0 or not",
+        "status read", "spells", "ALERT line", "alert response", "refused event", "code 0 or not", "THERM2 line",
     };
     printf("%-51s %10s %10s\n", "by the history, in the answers of", "the model", "the second");
     for (int claim = 0; claim < HISTORY_CLAIMS; claim++)
@@ -113,6 +132,18 @@ static void show_alarms(void)
     SHOW_BOTH("alert response", "refused", refused);
     SHOW_BOTH("reset in the middle", "", resets);
     SHOW_BOTH("reset in the middle", "flag or latch standing", resets_standing);
+    SHOW_BOTH("reset in the middle", "mark standing", resets_marked);
+    for (int channel = 0; channel < HISTORY_CHANNELS; channel++) {
+        SHOW_BOTH("mark set", channels[channel], marks_set[channel]);
+        SHOW_BOTH("mark kept", channels[channel], marks_kept[channel]);
+        SHOW_BOTH("mark cleared", channels[channel], marks_cleared[channel]);
+    }
+    SHOW_BOTH("mark moved", "bit 5 at 0", marks_unseen);
+    SHOW_BOTH("mark moved", "in standby", marks_standby);
+    SHOW_BOTH("pin 6 as THERM2", "low", therm2_low);
+    SHOW_BOTH("pin 6 as THERM2", "low, bit 7 set", therm2_low_masked);
+    SHOW_BOTH("alert response", "refused for bit 5 alone", therm2_refused);
+    SHOW_BOTH("bit 5 back to 0", "the latch shows", latch_shown);
 }
 
 unsigned counts_show(void)

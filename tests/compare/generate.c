@@ -68,9 +68,9 @@ static int32_t calm(generator *g, int32_t low, int32_t high)
 }
 
 /* A value at one of the places where a channel's comparisons turn. */
-static int32_t turning(generator *g, int32_t low, int32_t high, int32_t therm, int32_t release, int32_t most)
+static int32_t turning(generator *g, int32_t low, int32_t high, int32_t cool, int32_t therm, int32_t release, int32_t most)
 {
-    const int32_t places[] = {low, high, low, high, therm, release, 0, most};
+    const int32_t places[] = {low, high, low, high, cool, therm, release, 0, most};
     return beside(g, PICK(g, places));
 }
 
@@ -78,12 +78,12 @@ static int32_t turning(generator *g, int32_t low, int32_t high, int32_t therm, i
 static int32_t aimed(generator *g, int32_t scale, int32_t low, int32_t high, int32_t therm)
 {
     int32_t hysteresis = g->chip.reg[0x21], most = (is_extended(g) ? 256 : 128) * scale - 1;
-    int32_t release = therm > hysteresis ? therm - hysteresis : 0;
+    int32_t release = therm > hysteresis ? therm - hysteresis : 0, cool = high > hysteresis * scale ? high - hysteresis * scale : 0;
     uint32_t choice = random_below(g->random, 100);
     if (choice < 40)
         return calm(g, low, high);
     if (choice < 85)
-        return turning(g, low, high, therm * scale, release * scale, most);
+        return turning(g, low, high, cool, therm * scale, release * scale, most);
     return random_between(g->random, -most / 4, most + most / 4);
 }
 
@@ -267,6 +267,41 @@ static void pulled(generator *g)
     remote_fault(g);
 }
 
+/* ---- a fan on pin 6 ---- */
+
+/* A value of this channel where its THERM2 mark turns. */
+static int32_t marking(generator *g, int32_t scale, int32_t high)
+{
+    int32_t codes = g->chip.reg[0x21] * scale;
+    const int32_t places[] = {high + 1, high + 1, high, high > codes ? high - codes + 1 : 1, high > codes ? high - codes : 0, 0};
+    return PICK(g, places);
+}
+
+/* Bit 5 set, or not, and bit 7 or not, while values pass the high limits and come back, at conversions, some with the diode open, and by
+   writes in standby; alert responses and changes of the role between them. */
+static void fan(generator *g)
+{
+    static const uint8_t roles[] = {0x00, 0x20, 0x20, 0x20, 0xA0, 0x80};
+    static const uint8_t degrees[] = {0, 1, 3, 10, 10, 60, 90, 255};
+    const uint8_t *reg = g->chip.reg;
+    say_write(g, 0x0B, random_between(g->random, 10, 80));
+    say_write(g, 0x0D, random_between(g->random, 10, 80));
+    say_write(g, 0x13, 64 * random_between(g->random, 0, 3));
+    say_write(g, 0x21, PICK(g, degrees));
+    for (int32_t i = random_between(g->random, 2, 8); i > 0; i--) {
+        say_write(g, 0x09, (reg[0x03] & ~0xA0) | PICK(g, roles));
+        begin(g);
+        say(g, END, local_measured(g, marking(g, 1, reg[0x05])), remote_measured(g, marking(g, 4, 4 * reg[0x07] + reg[0x13] / 64)),
+            random_chance(g->random, 15));
+        if (random_chance(g->random, 30))
+            limit(g);
+        if (random_chance(g->random, 30))
+            respond(g);
+    }
+    if (random_chance(g->random, 60))
+        say_write(g, 0x09, reg[0x03] & ~0xA0);
+}
+
 static void look(generator *g)
 {
     static const uint8_t registers[] = {0x00, 0x01, 0x03, 0x04, 0x05, 0x06, 0x07, 0x08, 0x10, 0x11, 0x12,
@@ -344,7 +379,7 @@ static void foreign(generator *g)
 typedef void action(generator *g);
 static action *const actions[] = {
     convert, start, end, limit, settle, configuration, one_shot, offset, consecutive,
-    status, respond, look, receive, any_command, reset, bad_event, foreign, pulled,
+    status, respond, look, receive, any_command, reset, bad_event, foreign, pulled, fan,
 };
 enum { ACTIONS = sizeof actions / sizeof *actions };
 
@@ -353,15 +388,15 @@ static const struct character {
     bool in_standby;            /* the trace begins with a conversion, then standby */
     uint8_t weights[ACTIONS];
 } characters[] = {
-    /* conv st end lim sett conf shot off cons stat resp look rec any res bad for pull */
-    {false, {20, 2, 2, 10, 3, 6, 3, 4, 3, 12, 6, 6, 3, 8, 1, 4, 4, 2}},    /* a little of all */
-    {false, {30, 1, 1, 14, 4, 1, 0, 0, 1, 16, 10, 4, 1, 0, 0, 1, 0, 3}},   /* faults that come and go, and alerts */
-    {false, {40, 1, 1, 2, 2, 2, 0, 0, 5, 10, 5, 0, 0, 0, 1, 0, 0, 3}},     /* faults in a row */
-    {true, {10, 0, 1, 40, 4, 3, 4, 1, 1, 20, 10, 3, 1, 0, 0, 1, 1, 3}},    /* limits in standby */
-    {true, {30, 0, 0, 10, 12, 1, 0, 0, 5, 5, 2, 0, 0, 0, 0, 0, 0, 3}},     /* one-shots in a row, alerts taken back between them */
-    {false, {25, 1, 1, 4, 1, 10, 2, 20, 1, 5, 2, 25, 1, 0, 0, 0, 0, 1}},   /* ranges and offsets */
-    {false, {3, 3, 3, 1, 0, 2, 3, 1, 1, 3, 3, 2, 10, 50, 1, 8, 6, 0}},     /* any command */
-    {false, {5, 5, 5, 1, 0, 4, 4, 0, 0, 4, 5, 0, 2, 5, 2, 40, 15, 0}},     /* mostly refused */
+    /* conv st end lim sett conf shot off cons stat resp look rec any res bad for pull fan */
+    {false, {20, 2, 2, 10, 3, 6, 3, 4, 3, 12, 6, 6, 3, 8, 1, 4, 4, 2, 2}},    /* a little of all */
+    {false, {30, 1, 1, 14, 4, 1, 0, 0, 1, 16, 10, 4, 1, 0, 0, 1, 0, 3, 2}},   /* faults that come and go, and alerts */
+    {false, {40, 1, 1, 2, 2, 2, 0, 0, 5, 10, 5, 0, 0, 0, 1, 0, 0, 3, 1}},     /* faults in a row */
+    {true, {10, 0, 1, 40, 4, 3, 4, 1, 1, 20, 10, 3, 1, 0, 0, 1, 1, 3, 3}},    /* limits in standby */
+    {true, {30, 0, 0, 10, 12, 1, 0, 0, 5, 5, 2, 0, 0, 0, 0, 0, 0, 3, 2}},     /* one-shots in a row, alerts taken back between them */
+    {false, {25, 1, 1, 4, 1, 10, 2, 20, 1, 5, 2, 25, 1, 0, 0, 0, 0, 1, 1}},   /* ranges and offsets */
+    {false, {3, 3, 3, 1, 0, 2, 3, 1, 1, 3, 3, 2, 10, 50, 1, 8, 6, 0, 0}},     /* any command */
+    {false, {5, 5, 5, 1, 0, 4, 4, 0, 0, 4, 5, 0, 2, 5, 2, 40, 15, 0, 0}},     /* mostly refused */
 };
 
 generator generate_begin(randoms *random, trace *to, int32_t address)

@@ -1,4 +1,4 @@
-// Document 01, Comparisons: high, low and THERM of one channel, with its limits in its own codes.
+// Document 01, Comparisons: high, low, THERM and THERM2 of one channel, with its limits in its own codes.
 use rules::state::ChannelState;
 use rules::state::Limits;
 use rules::state::Mark;
@@ -43,6 +43,7 @@ pub fn compared(l: Limits, c: ChannelState) -> ChannelState
         high: verdict(high, l.high < c.value),
         low: verdict(low, c.value <= l.low),
         therm: comparator(l.therm, l.hysteresis, c.value, c.therm),
+        therm2: comparator(l.high, l.hysteresis, c.value, c.therm2),
         ..c
     }
 }

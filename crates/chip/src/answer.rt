@@ -2,7 +2,7 @@
 use rules::answer::Answer;
 use rules::answer::Done;
 use rules::state::State;
-use show::lines::alert_line;
+use show::lines::pin_line;
 use show::lines::therm_line;
 ghost use mathlib.Core.Path.{_≡_};
 ghost use Rattle.rules.specs.Step as rule;
@@ -14,7 +14,7 @@ pub fn answer(code: u8, reply: u8, s: State) -> Answer
     Answer {
         code,
         reply,
-        alert: alert_line(s),
+        alert: pin_line(s),
         therm: therm_line(s),
         state: s,
     }

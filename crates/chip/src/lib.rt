@@ -54,6 +54,7 @@ pub fn is_well_formed(s: State) -> bool
     judge::well_formed(s)
 }
 
+// ALERT, which pin 6 shows only in that role; an answer's alert is pin 6.
 pub fn is_alert_low(s: State) -> bool
     ensures { λ r. ⌜ r ≡ alertLow s ⌝ }
 {

@@ -25,6 +25,7 @@ pub fn local(s: State) -> ChannelState
             flag: s.localdiodeflag,
         },
         therm: s.localthermflag,
+        therm2: s.localtherm2mark,
     }
 }
 
@@ -47,6 +48,7 @@ pub fn remote(s: State) -> ChannelState
             flag: s.remotediodeflag,
         },
         therm: s.remotethermflag,
+        therm2: s.remotetherm2mark,
     }
 }
 
@@ -63,6 +65,7 @@ pub fn with_local(s: State, c: ChannelState) -> State
         localdiodefound: c.diode.found,
         localdiodeflag: c.diode.flag,
         localthermflag: c.therm,
+        localtherm2mark: c.therm2,
         ..s
     }
 }
@@ -80,6 +83,7 @@ pub fn with_remote(s: State, c: ChannelState) -> State
         remotediodefound: c.diode.found,
         remotediodeflag: c.diode.flag,
         remotethermflag: c.therm,
+        remotetherm2mark: c.therm2,
         ..s
     }
 }

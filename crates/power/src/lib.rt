@@ -30,6 +30,7 @@ fn all_zero() -> State
         localdiodefound: false,
         localdiodeflag: false,
         localthermflag: false,
+        localtherm2mark: false,
         remotehigh: 0,
         remotehighfine: 0,
         remotelow: 0,
@@ -46,6 +47,7 @@ fn all_zero() -> State
         remotediodefound: false,
         remotediodeflag: false,
         remotethermflag: false,
+        remotetherm2mark: false,
     }
 }
 

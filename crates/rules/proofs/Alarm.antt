@@ -16,14 +16,17 @@ use Rattle.rules.specs.declared.state.ChannelState.{ChannelState}
 use Rattle.rules.specs.declared.state.Given.{Given}
 use Rattle.rules.specs.declared.state.Mark.{Mark}
 use Rattle.rules.specs.declared.state.State.{State}
-use Rattle.rules.specs.Alarm.{Always, Demand, NoAlarmLost, ResetBeginsAnew, Shows, count, historyFrom, historyOf, next, stateOf, findingAt, findingOf, findsLimit, inARow, isFault, latched, latest, lineFree, needs, clearingReadsThatShowed, spellsOpened, stands, viewOf}
+use Rattle.rules.specs.Alarm.{Always, Demand, NoAlarmLost, ResetBeginsAnew, Shows, count, historyFrom, historyOf, next, stateOf, findingAt, findingOf, findsLimit, inARow, inTherm2, isFault, latched, latest, lineFree, needs, clearingReadsThatShowed, spellsOpened, stands, viewOf}
 use Rattle.rules.specs.Bits.{bit}
-use Rattle.rules.specs.Channels.{any}
+use Rattle.rules.specs.Channels.{any, anyChannel}
+use Rattle.rules.specs.Comparisons.{Comparator}
+use Rattle.rules.specs.Comparisons.Comparator.{Therm, Therm2}
 use Rattle.rules.specs.Configuration.{choosesTherm2, masked}
 use Rattle.rules.specs.Event.{checkOf}
 use Rattle.rules.specs.History.{Entry, Facts, Finding, History, View, begun, didOf, entryOf, now, readFacts, withEvent}
 use Rattle.rules.specs.History.Finding.{MadeNone, FoundNothing, FoundFault}
-use Rattle.rules.specs.Lines.{alertLine, alertLow}
+use Rattle.rules.specs.Hot.{hot, hotAfter}
+use Rattle.rules.specs.Lines.{alertLow, pinLine, pinLow, therm2Low}
 use Rattle.rules.specs.PowerOn.{isAddress, madeAt, madeOf, newChannel, newRest, noMark, noState, powerOn}
 use Rattle.rules.specs.Rows.{rowOf}
 use Rattle.rules.specs.Runs.{neededOf, ones, runsOf}
@@ -31,14 +34,13 @@ use Rattle.rules.specs.State.{channelAt, givenOf}
 use Rattle.rules.specs.Status.{Fault, Flag, anyFlag, flagAt, flags, markAt, markOf, placeOf, shownOf}
 use Rattle.rules.specs.Status.Fault.{Above, Below, Open}
 use Rattle.rules.specs.Step.{after, answerOf, applyOf, checkedOf, lastFrom, refused, responded, respondOf, responseOf, stepOf}
-use Rattle.rules.specs.Therm.{hot, hotAfter}
 use Rattle.rules.specs.WellFormed.{wellFormed}
 use Rattle.rules.proofs.Answers.{answer-has}
 use Rattle.rules.proofs.Kept.{given-kept, reset-state, status-done, status-only}
 use Rattle.rules.proofs.NeverSix.{after-well}
 use Rattle.rules.proofs.Rows.{channels-back}
 use Rattle.rules.proofs.Status.{status-bit}
-use Rattle.rules.proofs.Steps.{Steps, byFinding, entry, power-view, steps}
+use Rattle.rules.proofs.Steps.{Steps, byFinding, entry, power-view, steps, tripped}
 use Rattle.rules.proofs.WellFormed.{fresh-well-formed, steps-well-formed, well}
 
 -- ---- One latched flag ----
@@ -126,7 +128,7 @@ pub record Agrees (s : State) (h : History) : Type 0 where
   pub marks : (f : Flag) → Holds f (markAt s f) h
   pub counted : s .runs ≡ held (inARow h)
   pub latching : s .latch ≡ latched h
-  pub hots : (ch : Channel) → channelAt s ch .therm ≡ hot ch h
+  pub hots : (ch : Channel) (k : Comparator) → tripped (channelAt s ch) k ≡ hot k ch h
 
 module _ {s t : State} {x : Entry} {h : History} (g : Agrees s h) (e : Steps s x t) where
   any-stands : anyFlag s ≡ any (map (λ f. stands f h) flags)
@@ -147,9 +149,9 @@ module _ {s t : State} {x : Entry} {h : History} (g : Agrees s h) (e : Steps s x
       e .latch
       ∙ rw (counted-on, needs-same k .0, held-reached (needs k) (inARow (x ∷ h)) (needs-same k .1), g .latching, any-stands)
 
-  hot-on : (ch : Channel) → channelAt t ch .therm ≡ hot ch (x ∷ h)
+  hot-on : (ch : Channel) (k : Comparator) → tripped (channelAt t ch) k ≡ hot k ch (x ∷ h)
   unfolding hot
-  hot-on ch = e .therm ch ∙ ap (hotAfter x ch) (g .hots ch)
+  hot-on ch k = e .therms ch k ∙ ap (hotAfter x k ch) (g .hots ch k)
 
   -- every flag, whether the event compares or is a status read that showed it
   marks-on : ((f : Flag) → x .facts .statusRead ≡ true → (findingOf f x ≡ MadeNone) × (bit (placeOf f) (x .reply) ≡ flagAt s f)) → (f : Flag) → Holds f (markAt t f) (x ∷ h)
@@ -174,13 +176,17 @@ powered-agrees g =
       marks = marks;
       counted = refl;
       latching = refl;
-      hots = λ ch. ap (λ (c : Channel → ChannelState). c ch .therm) (channels-back g newRest (λ r. rowOf r .start) (λ ch. newChannel));
+      hots = λ ch k. ap (λ (c : Channel → ChannelState). tripped (c ch) k) (channels-back g newRest (λ r. rowOf r .start) (λ ch. newChannel)) ∙ cold k;
     }
   where
     clear : (k : Fault) → markOf newChannel k ≡ noMark
     clear Above = refl
     clear Below = refl
     clear Open = refl
+
+    cold : (k : Comparator) → tripped newChannel k ≡ false
+    cold Therm = refl
+    cold Therm2 = refl
 
     marks : (f : Flag) → Holds f (markAt (powerOn g) f) []
     marks f =
@@ -266,15 +272,22 @@ demand : (s : State) (h : History) → Agrees s h → Demand s h
 demand s h g =
     record { seen = g .seen; stand = λ f. g .marks f .flag; spells = λ f. g .marks f .spells; latch = g .latching }
 
--- the line by the latch and what is seen of the configuration
+-- ALERT by the latch and what is seen of the configuration
 pub line : (s : State) (h : History) → Agrees s h → alertLow s ≡ (latched h && lineFree (now (s .address) h))
 line s h g =
     rw (← (g .latching), ← (g .seen)) (and-assoc (s .latch) (not (masked (s .config))) (not (choosesTherm2 (s .config))))
 
+-- pin 6 by its role
+pub pin : (s : State) (h : History) → Agrees s h → pinLow s ≡ cond (inTherm2 (now (s .address) h)) (anyChannel (λ ch. hot Therm2 ch h)) (latched h && lineFree (now (s .address) h))
+pin s h g =
+    ap (λ (v : View). cond (inTherm2 v) (therm2Low s) (alertLow s)) (g .seen)
+    ∙ ap (cond (inTherm2 (now (s .address) h)) (therm2Low s)) (line s h g)
+    ∙ ap (λ (p : Channel → Bool). cond (inTherm2 (now (s .address) h)) (anyChannel p) (latched h && lineFree (now (s .address) h))) (λ i ch. g .hots ch Therm2 i)
+
 -- an answer's line is its state's
-answer-line : (s : State) (n : Numbers) → stepOf s n .alert ≡ alertLine (stepOf s n .state)
+answer-line : (s : State) (n : Numbers) → stepOf s n .alert ≡ pinLine (stepOf s n .state)
 answer-line s n =
-    answer-has (λ (x : Answer). x .alert ≡ alertLine (x .state)) s (λ code small. refl) n (λ e is taken. refl)
+    answer-has (λ (x : Answer). x .alert ≡ pinLine (x .state)) s (λ code small. refl) n (λ e is taken. refl)
 
 answered : (s : State) (t : Bool) → cond t (answerOf 0 (responseOf (s .address)) (responded s)) (refused 3 s) .code ≡ cond t 0 3
 answered s true = refl
@@ -288,14 +301,15 @@ shows s h w g =
           let is = subst (λ (v : View). didOf v (checkOf e) .statusRead ≡ true) (sym (g .seen)) read in
           (status-done s w e is .0, λ f. noted-shown s h w g e f is .1 ∙ g .marks f .flag);
       responses = rw w (answered s (alertLow s) ∙ ap (λ (t : Bool). cond t 0 3) (line s h g));
-      line = λ e. answer-line s e ∙ ap not (after-event e);
+      pin-alert = λ e role. answer-line s e ∙ ap not (after-event e) ∙ rw role;
+      pin-therm2 = λ e role. answer-line s e ∙ ap not (after-event e) ∙ rw role;
     }
   where
-    after-event : (e : Numbers) → alertLow (stepOf s e .state) ≡ (latched (next s h e) && lineFree (now (s .address) (next s h e)))
+    after-event : (e : Numbers) → let k = next s h e in pinLow (stepOf s e .state) ≡ cond (inTherm2 (now (s .address) k)) (anyChannel (λ ch. hot Therm2 ch k)) (latched k && lineFree (now (s .address) k))
     after-event e =
         let k = next s h e in
-        line (stepOf s e .state) k (one-more s h w g e)
-        ∙ ap (λ (x : Given). latched k && lineFree (now (x .address) k)) (given-kept s e)
+        pin (stepOf s e .state) k (one-more s h w g e)
+        ∙ ap (λ (x : Given). cond (inTherm2 (now (x .address) k)) (anyChannel (λ ch. hot Therm2 ch k)) (latched k && lineFree (now (x .address) k))) (given-kept s e)
 
 pub no-alarm-lost : NoAlarmLost
 no-alarm-lost address made es =

@@ -1,24 +1,30 @@
 -- What a firmware lead would look for, from the agreement of state and history. Assumes nothing.
+use Prim.Native.Nat.{_-_}
 use mathlib.Core.Path.{_≡_, refl, sym, subst, ap, _∙_}
 use mathlib.Core.Bool.{Bool, true, false, cond, _&&_, _||_, not, or-true}
 use mathlib.Core.List.{List, [], _∷_}
-use lib.Dec.{eqb}
+use lib.Dec.{eqb, leb}
 use lib.IntN.{ℤ}
 use borrow.Author.Tests.{eq-eqb}
 use Rattle.rules.specs.declared.answer.Answer.{Answer}
 use Rattle.rules.specs.declared.event.Numbers.{Numbers}
 use Rattle.rules.specs.declared.register.Channel.{Channel}
+use Rattle.rules.specs.declared.register.Register.the-variants.{Config}
 use Rattle.rules.specs.declared.state.Given.{Given}
 use Rattle.rules.specs.declared.state.State.{State}
-use Rattle.rules.specs.Alarm.{findingAt, finds, isFault, latched, latest, limitFound, lineFree, sets, stands, stateOf, historyOf, next, readsNext, historyFrom}
-use Rattle.rules.specs.Assured.{AlertStaysLow, FaultsShown, NoneInvented, StandbyFault, StandbyLimitAlerts, StandbyLimitShown, beyond, clearsLatchNow, findsNow, nextAll, resetsNext, setsNow, uncleared, unread}
+use Rattle.rules.specs.Alarm.{findingAt, finds, inTherm2, isFault, latched, latest, limitFound, lineFree, sets, stands, stateOf, historyOf, next, readsNext, historyFrom}
+use Rattle.rules.specs.Assured.{AlertStaysLow, FaultsShown, NoneInvented, StandbyFault, StandbyLimitAlerts, StandbyLimitShown, Therm2Pulls, beyond, clearsLatchNow, findsNow, nextAll, resetsNext, setsNow, uncleared, unread}
 use Rattle.rules.specs.Bits.{bit}
+use Rattle.rules.specs.Comparisons.{aboveOf, limitsOf}
+use Rattle.rules.specs.Comparisons.Comparator.{Therm2}
+use Rattle.rules.specs.Configuration.{choosesTherm2, masked}
 use Rattle.rules.specs.Event.{checkOf}
-use Rattle.rules.specs.History.{Entry, Facts, History, View, begun, comparesAt, didOf, entryOf, inStandby, now, seenAfter, writeFacts}
-use Rattle.rules.specs.Lines.{alertLine}
+use Rattle.rules.specs.History.{Entry, Facts, History, View, begun, comparesAt, didOf, entryOf, foundIf, inStandby, now, seenAfter, writeFacts}
+use Rattle.rules.specs.Hot.{hot}
+use Rattle.rules.specs.Lines.{alertLow, pinLine, pinLow, therm2Low}
 use Rattle.rules.specs.PowerOn.{madeOf}
 use Rattle.rules.specs.State.{givenOf}
-use Rattle.rules.specs.Status.{Fault, Flag, placeOf}
+use Rattle.rules.specs.Status.{Fault, Flag, flagFor, placeOf}
 use Rattle.rules.specs.Status.Fault.{Above, Below, Open}
 use Rattle.rules.specs.Step.{after, answerOf, lastFrom, stepOf}
 use Rattle.rules.specs.WellFormed.{wellFormed}
@@ -89,6 +95,14 @@ still-latched (n ∷ later) s h e u =
 
 -- ---- From a state that agrees with its history ----
 
+-- ALERT low is pin 6 low: bit 5 is 0
+low-pin : (s : State) → alertLow s ≡ true → pinLow s ≡ true
+low-pin s e = by (choosesTherm2 (s .config)) (not-true (choosesTherm2 (s .config)) (right (s .latch && not (masked (s .config))) (not (choosesTherm2 (s .config))) e))
+  where
+    by : (role : Bool) → role ≡ false → cond role (therm2Low s) (alertLow s) ≡ true
+    by true q = no (sym q)
+    by false q = e
+
 -- whatever is given with the address is kept by every event
 all-given : (es : List Numbers) (x : Answer) → givenOf (lastFrom x es .state) ≡ givenOf (x .state)
 unfolding lastFrom
@@ -103,11 +117,12 @@ module _ (s : State) (h : History) (w : wellFormed s ≡ true) (g : Agrees s h) 
   shown-later later r f found calm read =
       shows (after s later) (nextAll s h later) (later-well later) (all-more later s h w g) .reads r read .1 f ∙ still-stands f later s h found calm
 
-  low-later : (later : List Numbers) → latched h ≡ true → uncleared s h later ≡ true → lineFree (now (s .address) (nextAll s h later)) ≡ true → alertLine (after s later) ≡ false
+  low-later : (later : List Numbers) → latched h ≡ true → uncleared s h later ≡ true → lineFree (now (s .address) (nextAll s h later)) ≡ true → (alertLow (after s later) ≡ true) × (pinLine (after s later) ≡ false)
   low-later later set kept free =
       let k = nextAll s h later in
       let at : lineFree (now (after s later .address) k) ≡ true = subst (λ (x : Given). lineFree (now (x .address) k) ≡ true) (sym (all-given later (answerOf 0 0 s))) free in
-      ap not (line (after s later) k (all-more later s h w g)) ∙ rw (still-latched later s h set kept, at)
+      let low : alertLow (after s later) ≡ true = line (after s later) k (all-more later s h w g) ∙ rw (still-latched later s h set kept, at) in
+      (low, ap not (low-pin (after s later) low))
 
   -- a limit written in standby
   module _ (e : Numbers) (ch : Channel) (k : Fault) (p : StandbyFault s h e ch k) where
@@ -180,4 +195,24 @@ standby-limit-alerts address made es e ch k p free =
     let h = historyOf address es in
     let w = well-now address made es in
     let g = agrees address made es in
-    shows s h w g .line e ∙ rw (set-latches (next s h e) (it-sets s h w g e ch k p), free)
+    shows s h w g .pin-alert e (not-true (inTherm2 (now (s .address) (next s h e))) (right (not (bit 7 (now (s .address) (next s h e) .registers Config))) (not (inTherm2 (now (s .address) (next s h e)))) free))
+    ∙ rw (set-latches (next s h e) (it-sets s h w g e ch k p), free)
+
+-- what a comparison finds above the high limit sets the mark
+found-trips : (ch : Channel) (h : History) → findsNow (flagFor ch Above) h ≡ true → hot Therm2 ch h ≡ true
+unfolding hot
+found-trips ch [] e = no e
+found-trips ch (x ∷ h) e =
+    by (x .facts .compared ch) (aboveOf (limitsOf (x .seen .registers) ch .high) (x .seen .value ch)) e
+  where
+    by : (made above : Bool) → isFault (foundIf made above) ≡ true → cond made (cond above true (cond (leb (x .seen .value ch) (limitsOf (x .seen .registers) ch .high - limitsOf (x .seen .registers) ch .hysteresis)) false (hot Therm2 ch h))) (hot Therm2 ch h) ≡ true
+    by true true q = refl
+    by true false q = no q
+    by false above q = no q
+
+pub therm2-pulls : Therm2Pulls
+therm2-pulls address made es e ch found role =
+    let s = stateOf address es in
+    let h = historyOf address es in
+    shows s h (well-now address made es) (agrees address made es) .pin-therm2 e role
+    ∙ ap not (any-channel (λ c. hot Therm2 c (next s h e)) ch (found-trips ch (next s h e) found))

@@ -13,11 +13,11 @@ use Rattle.rules.specs.Comparisons.{comparedOf}
 use Rattle.rules.specs.Conversion.{codeFor, converted, convertedOf, takenOf}
 use Rattle.rules.specs.Ended.{ClosedTakes, Ends, Held, Idle, OpenHolds, OpenPasses, Taken, oneMore, over, under}
 use Rattle.rules.specs.History.{Finding, View, now, outcome}
+use Rattle.rules.specs.Hot.{hot}
 use Rattle.rules.specs.State.{storedOf}
 use Rattle.rules.specs.Status.{flagFor}
 use Rattle.rules.specs.Status.Fault.{Above, Below}
 use Rattle.rules.specs.Step.{applyOf, done, endOf, refused, silent, stepOf}
-use Rattle.rules.specs.Therm.{hot}
 use Rattle.rules.proofs.Alarm.{needs-same}
 use Rattle.rules.proofs.Steps.{converted-steps, outcome-fault}
 use Rattle.rules.proofs.WellFormed.{Well, well}
@@ -43,8 +43,8 @@ module _ (s : State) (w : Well s) (local remote : ℤ) where
       record {
         diode = ap (λ (b : Bool). record { found = true; flag = b }) (or-true (s .remotediodeflag));
         latch = or-true (s .latch);
-        local = record { value = refl; converted = refl; high = refl; low = refl; therm = refl };
-        remote = record { value = refl; therm = refl; high = refl; low = refl; converted = refl };
+        local = record { value = refl; converted = refl; high = refl; low = refl; therm = refl; therm2 = refl };
+        remote = record { value = refl; therm = refl; therm2 = refl; high = refl; low = refl; converted = refl };
         runs = ap (oneMore (s .runs)) (or-false (over (storedOf s) Local local-code || under (storedOf s) Local local-code));
         rest = idle true;
       }
@@ -54,8 +54,8 @@ module _ (s : State) (w : Well s) (local remote : ℤ) where
   taken =
       record {
         diode = refl;
-        local = record { value = refl; converted = refl; high = refl; low = refl; therm = refl };
-        remote = record { value = refl; converted = refl; high = refl; low = refl; therm = refl };
+        local = record { value = refl; converted = refl; high = refl; low = refl; therm = refl; therm2 = refl };
+        remote = record { value = refl; converted = refl; high = refl; low = refl; therm = refl; therm2 = refl };
         runs = ap (λ (b : Bool). oneMore (s .runs) (over (storedOf s) Local local-code || under (storedOf s) Local local-code || b)) (or-false (over (storedOf s) Remote remote-code || under (storedOf s) Remote remote-code));
         latch = ap (λ (n : ℕ). s .latch || leb n (converted s (samples false) .runs)) (needs-same (s .consecutive) .0);
         rest = idle false;
@@ -89,7 +89,7 @@ open-passes address h t reply runs broken = rw (runs, broken)
       high = and-true _;
       low = and-true _;
       opened = refl;
-      therm = refl;
+      therms = λ k. refl;
       latches = refl;
       local-high = by (over (now address h .registers) Local (codeFor (now address h .registers) Local (t .local))) (latest (flagFor Local Above) h);
       local-low = by (under (now address h .registers) Local (codeFor (now address h .registers) Local (t .local))) (latest (flagFor Local Below) h);

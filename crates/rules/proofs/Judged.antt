@@ -16,7 +16,7 @@ use Rattle.rules.specs.Alarm.{findingOf, viewOf}
 use Rattle.rules.specs.Event.{checkOf}
 use Rattle.rules.specs.History.{Facts, entryOf}
 use Rattle.rules.specs.Judged.{CheckedNumbers, ChecksFirst, LinesRead, Regular, ResponseClears, ShownMeans, SixExactly, StatusReadClears}
-use Rattle.rules.specs.Lines.{alertLine, thermLine}
+use Rattle.rules.specs.Lines.{pinLine, thermLine}
 use Rattle.rules.specs.PowerOn.{allZero, isAddress, madeAt, newChannel, newRest, noState}
 use Rattle.rules.specs.Rows.{trimOf}
 use Rattle.rules.specs.Sound.{Zeros, ZerosAfterCode2}
@@ -75,7 +75,7 @@ checked-numbers = (λ e. refl, λ code. refl)
 
 pub lines-read : LinesRead
 lines-read s n =
-    (answer-has (λ (x : Answer). x .alert ≡ alertLine (x .state)) s (λ code small. refl) n (λ e is taken. refl), answer-has (λ (x : Answer). x .therm ≡ thermLine (x .state)) s (λ code small. refl) n (λ e is taken. refl))
+    (answer-has (λ (x : Answer). x .alert ≡ pinLine (x .state)) s (λ code small. refl) n (λ e is taken. refl), answer-has (λ (x : Answer). x .therm ≡ thermLine (x .state)) s (λ code small. refl) n (λ e is taken. refl))
 
 pub shown-means : ShownMeans
 shown-means m =

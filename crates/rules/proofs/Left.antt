@@ -14,6 +14,7 @@ use Rattle.rules.specs.declared.register.Register.{Register}
 use Rattle.rules.specs.declared.state.Mark.{Mark}
 use Rattle.rules.specs.declared.state.State.{State}
 use Rattle.rules.specs.Alarm.{findsLimit, isFault, viewOf}
+use Rattle.rules.specs.Comparisons.Comparator.{Therm, Therm2}
 use Rattle.rules.specs.Ended.{found, over, under}
 use Rattle.rules.specs.Event.{checkOf}
 use Rattle.rules.specs.History.{Facts, View, askFacts, comparesAt, facts, foundIf, inStandby, noCheck, noFacts, pointed, readFacts, startedView, writeFacts, writtenView}
@@ -69,7 +70,8 @@ module _ (s t : State) (compared : Channel → Bool) (reads asked : Bool) (v : V
               high = own .mark ch Above ∙ by-mark reads (compared ch) (over (storedOf t) ch (channelAt t ch .value)) (channelAt s ch .high);
               low = own .mark ch Below ∙ by-mark reads (compared ch) (under (storedOf t) ch (channelAt t ch .value)) (channelAt s ch .low);
               diode = own .mark ch Open ∙ by-diode reads (channelAt s ch .diode);
-              therm = own .therm ch;
+              therm = own .therms ch Therm;
+              therm2 = own .therms ch Therm2;
             };
       }
 

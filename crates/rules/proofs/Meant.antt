@@ -3,7 +3,7 @@ use Prim.Native.Nat.{ℕ, suc, _+_, _*_, _-_, _/_, _≤_, _<_}
 use native.Mathlib.Nat.{add-zero, one-mul}
 use native.Mathlib.Omega.{arith}
 use mathlib.Core.Path.{_≡_, refl, ap, _∙_}
-use mathlib.Core.Bool.{Bool, true, false, cond, not, _&&_, _||_, and-assoc, or-false}
+use mathlib.Core.Bool.{Bool, true, false, cond, not, _&&_, _||_, and-assoc, and-true, or-false}
 use mathlib.Core.List.{[], _∷_}
 use lib.Dec.{ltb}
 use lib.IntN.{ℤ, subℕ, _+ℤ_, _-ℤ_, _*ℤ_, +ℤ-idr}
@@ -13,9 +13,11 @@ use Rattle.rules.specs.declared.register.Channel.{Channel}
 use Rattle.rules.specs.declared.register.Channel.the-variants.{Local, Remote}
 use Rattle.rules.specs.declared.register.Register.the-variants.{RemoteOffset, RemoteOffsetFine}
 use Rattle.rules.specs.Bits.{bit, weight}
+use Rattle.rules.specs.Comparisons.{comparatorOf}
 use Rattle.rules.specs.Configuration.{choosesTherm2, masked}
 use Rattle.rules.specs.Conversion.{codeFor}
-use Rattle.rules.specs.Meant.{AnyMeans, BitsMean, Clamped, CodesMean, ComparedMeans, ComparisonsOrder, FlagsMean, KeepsMean, LimitsMean, LinesMean, ListsMean, MadeMeans, NeedsMean, New, NewMeans, OffsetsMean, SamplesMean, SixMeans, ThermBitsMean, ThermCompares, TrimMeans, bytes}
+use Rattle.rules.specs.Lines.{pinLine}
+use Rattle.rules.specs.Meant.{AnyMeans, BitsMean, Clamped, CodesMean, ComparatorMeans, ComparedMeans, ComparisonsOrder, FlagsMean, KeepsMean, LimitsMean, LinesMean, ListsMean, MadeMeans, NeedsMean, New, NewMeans, OffsetsMean, SamplesMean, SixMeans, ThermBitsMean, TrimMeans, TrippedMeans, bytes}
 use Rattle.rules.specs.PowerOn.{madeAt, newChannel}
 use Rattle.rules.specs.Rows.{trimOf}
 use Rattle.rules.specs.Runs.{neededOf, ones}
@@ -31,14 +33,16 @@ comparisons-order limit value =
       not-below = λ h. lt-leb value limit h;
     }
 
-pub therm-compares : ThermCompares
-therm-compares limit hysteresis value was =
-    record {
-      set = λ h. rw (lt-ltb limit value h);
-      cleared = λ h. rw (le-ltb limit value (omega arith), le-leb value (limit - hysteresis) (omega arith));
-      at-zero = λ h. rw (le-ltb limit value (omega arith), le-leb value (limit - hysteresis) (omega arith));
-      kept = λ z h m. rw (le-ltb limit value m, lt-leb value (limit - hysteresis) (omega arith));
-    }
+pub comparator-means : ComparatorMeans
+comparator-means scale limit hysteresis value was =
+    let all = by (scale * hysteresis) in
+    record { set = all .0; cleared = all .1; at-zero = all .2; kept = all .3 }
+  where
+    by : (codes : ℕ) → (limit < value → comparatorOf limit codes value was ≡ true) × (value + codes ≤ limit → comparatorOf limit codes value was ≡ false) × (value ≡ 0 → comparatorOf limit codes value was ≡ false) × (0 < value → limit < value + codes → value ≤ limit → comparatorOf limit codes value was ≡ was)
+    by codes = (λ h. rw (lt-ltb limit value h), λ h. rw (le-ltb limit value (omega arith), le-leb value (limit - codes) (omega arith)), λ h. rw (le-ltb limit value (omega arith), le-leb value (limit - codes) (omega arith)), λ z h m. rw (le-ltb limit value m, lt-leb value (limit - codes) (omega arith)))
+
+pub tripped-means : TrippedMeans
+tripped-means l value was = (refl, refl)
 
 pub limits-mean : LimitsMean
 limits-mean f = (simp (one-mul, add-zero), simp add-zero)
@@ -159,4 +163,10 @@ needs-mean b = by (bit 1 b) (bit 2 b) (bit 3 b)
 
 pub lines-mean : LinesMean
 lines-mean s =
-    (and-assoc (s .latch) (not (masked (s .config))) (not (choosesTherm2 (s .config))), refl, ap (λ (b : Bool). not (channelAt s Local .therm || b)) (or-false (channelAt s Remote .therm)))
+    (and-assoc (s .latch) (not (masked (s .config))) (not (choosesTherm2 (s .config))), marks, alert, ap (λ (b : Bool). not (channelAt s Local .therm || b)) (or-false (channelAt s Remote .therm)))
+  where
+    marks : bit 5 (s .config) ≡ true → pinLine s ≡ not (channelAt s Local .therm2 || channelAt s Remote .therm2)
+    marks role = rw role (ap (λ (b : Bool). not (channelAt s Local .therm2 || b)) (or-false (channelAt s Remote .therm2)))
+
+    alert : bit 5 (s .config) ≡ false → pinLine s ≡ not (s .latch && not (bit 7 (s .config)))
+    alert role = rw role (ap not (and-true (s .latch && not (masked (s .config)))))

@@ -23,11 +23,13 @@ use Rattle.rules.specs.declared.state.State.{State}
 use Rattle.rules.specs.Alarm.{findingAt, findsLimit, findsOpen, isFault, limitFound, lineFree, viewOf}
 use Rattle.rules.specs.Channels.{anyChannel, brokenAt, comparedIn, sampleAt, traits}
 use Rattle.rules.specs.Commands.{sourceOf, targetOf}
-use Rattle.rules.specs.Comparisons.{aboveOf, belowOf, comparatorOf, comparedOf, faultOf, limitsOf, recomparedOf, verdictOf}
+use Rattle.rules.specs.Comparisons.{Comparator, aboveOf, belowOf, comparedOf, diodeOf, faultOf, limitsOf, recomparedOf, trippedOf, verdictOf}
+use Rattle.rules.specs.Comparisons.Comparator.{Therm, Therm2}
 use Rattle.rules.specs.Configuration.{choosesTherm2, masked, standby}
 use Rattle.rules.specs.Conversion.{codeFor, converted, convertedOf, takenOf}
 use Rattle.rules.specs.History.{didOf, Entry, Facts, Finding, View, askFacts, bytesAfter, comparesAt, endFacts, entryOf, foundIf, measuredView, noFacts, outcome, pointed, powered, readFacts, runningAfter, startedView, writeFacts, writtenView}
 use Rattle.rules.specs.History.Finding.{MadeNone, FoundNothing, FoundFault}
+use Rattle.rules.specs.Hot.{hotAfter}
 use Rattle.rules.specs.Lines.{alertLow}
 use Rattle.rules.specs.PowerOn.{newChannel, newRest, powerOn}
 use Rattle.rules.specs.Read.{afterRead, readAtPointer}
@@ -37,7 +39,6 @@ use Rattle.rules.specs.State.{Rest, channelAt, givenOf, put, restOf, sta
 use Rattle.rules.specs.Status.{Fault, afterStatus, anyFlag, markOf, shownChannel, shownOf}
 use Rattle.rules.specs.Status.Fault.{Above, Below, Open}
 use Rattle.rules.specs.Step.{answerOf, applyOf, checkedOf, done, endOf, refused, responded, respondOf, responseOf, silent, startOf}
-use Rattle.rules.specs.Therm.{hotAfter}
 use Rattle.rules.specs.Write.{comparedIf, standbyCompared, stored, written, writtenTo}
 use Rattle.rules.proofs.Choice.{whichever}
 use Rattle.rules.proofs.Commands.{compare-named, comparesTo, isInto, isOneShot, isStatus, register-named, shot-named, status-named}
@@ -55,6 +56,11 @@ byFinding FoundFault m = verdictOf m true
 abbrev pub marked : Entry → Channel → Fault → Mark → Mark
 marked x ch k m = cond (x .facts .statusRead) (shownOf m) (byFinding (findingAt x ch k) m)
 
+-- a comparator of a channel
+abbrev pub tripped : ChannelState → Comparator → Bool
+tripped c Therm = c .therm
+tripped c Therm2 = c .therm2
+
 -- what sets the latch, by the run count after the event
 abbrev pub setsWith : Entry → ℕ → Bool
 setsWith x runs =
@@ -69,7 +75,7 @@ pub record Steps (s : State) (x : Entry) (t : State) : Type 0 where
   pub mark : (ch : Channel) (k : Fault) → markOf (channelAt t ch) k ≡ marked x ch k (markOf (channelAt s ch) k)
   pub runs : t .runs ≡ cond (x .facts .ended) (runsOf (s .runs) (findsLimit x)) (s .runs)
   pub latch : t .latch ≡ latchAfter s x (t .runs)
-  pub therm : (ch : Channel) → channelAt t ch .therm ≡ hotAfter x ch (channelAt s ch .therm)
+  pub therms : (ch : Channel) (k : Comparator) → tripped (channelAt t ch) k ≡ hotAfter x k ch (tripped (channelAt s ch) k)
 
 abbrev pub entry : Facts → View → ℕ → Entry
 entry facts v reply = record { facts = facts; seen = v; reply = reply }
@@ -105,7 +111,7 @@ module _ (s : State) (facts : Facts) (v : View) (reply : ℕ) (p : Rest) (f : Re
       ((ch : Channel) (k : Fault) → markOf (c ch) k ≡ marked (entry facts w reply) ch k (markOf (channelAt s ch) k))
       × (p .runs ≡ cond (facts .ended) (runsOf (s .runs) (findsLimit (entry facts w reply))) (s .runs))
       × (p .latch ≡ latchAfter s (entry facts w reply) (p .runs))
-      × ((ch : Channel) → c ch .therm ≡ hotAfter (entry facts w reply) ch (channelAt s ch .therm))
+      × ((ch : Channel) (k : Comparator) → tripped (c ch) k ≡ hotAfter (entry facts w reply) k ch (tripped (channelAt s ch) k))
 
   became : Became (viewFrom (givenOf s) p f c) → Steps s (entry facts v reply) (stateFrom (givenOf s) p f c)
   became h =
@@ -115,7 +121,7 @@ module _ (s : State) (facts : Facts) (v : View) (reply : ℕ) (p : Rest) (f : Re
         mark = λ ch k. ap (λ (x : Channel → ChannelState). markOf (x ch) k) (channels-back (givenOf s) p f c) ∙ there .0 ch k;
         runs = there .1;
         latch = there .2;
-        therm = λ ch. ap (λ (x : Channel → ChannelState). x ch .therm) (channels-back (givenOf s) p f c) ∙ there .3 ch;
+        therms = λ ch k. ap (λ (x : Channel → ChannelState). tripped (x ch) k) (channels-back (givenOf s) p f c) ∙ there .3 ch k;
       }
 
   -- an event that compared nothing, read no status and asked for no response
@@ -135,7 +141,7 @@ module _ (s : State) (facts : Facts) (v : View) (reply : ℕ) (p : Rest) (f : Re
             mark = λ ch k. ap (λ (x : Channel → ChannelState). markOf (x ch) k) (channels-back (givenOf s) p f c) ∙ held ch k;
             runs = n;
             latch = l ∙ sym (and-true (s .latch));
-            therm = λ ch. ap (λ (x : Channel → ChannelState). x ch .therm) (channels-back (givenOf s) p f c ∙ same);
+            therms = λ ch k. ap (λ (x : Channel → ChannelState). tripped (x ch) k) (channels-back (givenOf s) p f c ∙ same);
           }
 
 -- nothing at all
@@ -154,13 +160,18 @@ shown-mark c Above = refl
 shown-mark c Below = refl
 shown-mark c Open = refl
 
+-- and leaves both comparators
+shown-tripped : (c : ChannelState) (k : Comparator) → tripped (shownChannel c) k ≡ tripped c k
+shown-tripped c Therm = refl
+shown-tripped c Therm2 = refl
+
 at-source : (s : State) (p : Rest) → p .runs ≡ s .runs → p .latch ≡ s .latch → (v : View) → viewFrom (givenOf s) p (storedOf s) (channelAt s) ≡ v → (reply : ℕ) (q : Source) → Steps s (entry (readFacts (isStatus q)) v reply) (afterRead (withRest s p) q)
 unfolding afterStatus
 at-source s p n l v is reply (From r) = moved s v reply p n l is
 at-source s p n l v is reply (Value ch) = moved s v reply p n l is
 at-source s p n l v is reply (ValueFine ch) = moved s v reply p n l is
 at-source s p n l v is reply Status =
-    became s (readFacts true) v reply p (storedOf s) (λ ch. shownChannel (channelAt s ch)) is ((λ ch k. shown-mark (channelAt s ch) k), n, l ∙ sym (and-true (s .latch)), λ ch. refl)
+    became s (readFacts true) v reply p (storedOf s) (λ ch. shownChannel (channelAt s ch)) is ((λ ch k. shown-mark (channelAt s ch) k), n, l ∙ sym (and-true (s .latch)), λ ch k. shown-tripped (channelAt s ch) k)
 at-source s p n l v is reply Maker = moved s v reply p n l is
 at-source s p n l v is reply Revision = moved s v reply p n l is
 at-source s p n l v is reply Hole = moved s v reply p n l is
@@ -183,7 +194,7 @@ each-same p q e = ap anyChannel (λ i ch. e ch i)
 module _ (l : Limits) (value : ℕ) (converted : Bool) (c : ChannelState) where
   abbrev chosen : Bool → ChannelState
   chosen x =
-      cond x (comparedOf l (record { value = value; converted = converted; high = c .high; low = c .low; diode = c .diode; therm = c .therm })) c
+      cond x (comparedOf l (record { value = value; converted = converted; high = c .high; low = c .low; diode = c .diode; therm = c .therm; therm2 = c .therm2 })) c
 
   abbrev above : Bool → Finding
   above x = foundIf x (aboveOf (l .high) (chosen x .value))
@@ -211,10 +222,11 @@ module _ (l : Limits) (value : ℕ) (converted : Bool) (c : ChannelState) where
   chosen-found true = rw (outcome-fault (aboveOf (l .high) value), outcome-fault (belowOf (l .low) value))
   chosen-found false = refl
 
-  chosen-therm : (x : Bool) → chosen x .therm ≡ cond x (comparatorOf (l .therm) (l .hysteresis) (chosen x .value) (c .therm)) (c .therm)
+  chosen-tripped : (x : Bool) (k : Comparator) → tripped (chosen x) k ≡ cond x (trippedOf k l (chosen x .value) (tripped c k)) (tripped c k)
   unfolding comparedOf
-  chosen-therm true = refl
-  chosen-therm false = refl
+  chosen-tripped true Therm = refl
+  chosen-tripped true Therm2 = refl
+  chosen-tripped false k = refl
 
 module _ (s : State) (reply : ℕ) (p : Rest) (f : Register → ℕ) where
   abbrev again : Channel → ChannelState
@@ -239,15 +251,15 @@ module _ (s : State) (reply : ℕ) (p : Rest) (f : Register → ℕ) where
       let c = channelAt s ch in
       rw (again-kept ch .0) (chosen-found (limitsOf f ch) (c .value) (c .converted) c (c .converted))
 
-  again-therm : (ch : Channel) → again ch .therm ≡ hotAfter anew ch (channelAt s ch .therm)
-  again-therm ch = let c = channelAt s ch in chosen-therm (limitsOf f ch) (c .value) (c .converted) c (c .converted)
+  again-tripped : (ch : Channel) (k : Comparator) → tripped (again ch) k ≡ hotAfter anew k ch (tripped (channelAt s ch) k)
+  again-tripped ch k = let c = channelAt s ch in chosen-tripped (limitsOf f ch) (c .value) (c .converted) c (c .converted) k
 
   -- a comparison in standby
   standby-steps : p .runs ≡ s .runs → p .latch ≡ s .latch → (v : View) → viewFrom (givenOf s) p f (channelAt s) ≡ v → Steps s (entry (writeFacts (viewOf s) true) v reply) (standbyCompared (stateFrom (givenOf s) p f (channelAt s)))
   unfolding standbyCompared comparedOf
   standby-steps n l v is =
       became s (writeFacts (viewOf s) true) v reply after f again (looks ∙ is)
-      (again-mark, n, rw (l, and-true (s .latch)) (or-comm (s .latch) _ ∙ ap (λ (b : Bool). b || s .latch) (each-same (λ ch. faultOf (again ch)) (limitFound anew) again-fault)), again-therm)
+      (again-mark, n, rw (l, and-true (s .latch)) (or-comm (s .latch) _ ∙ ap (λ (b : Bool). b || s .latch) (each-same (λ ch. faultOf (again ch)) (limitFound anew) again-fault)), again-tripped)
     where
       after : Rest
       after = record { pointer = p .pointer; busy = p .busy; runs = p .runs; latch = p .latch || anyChannel (λ ch. faultOf (again ch)) }
@@ -267,6 +279,11 @@ unchecked false false m e h = by (m .found) (m .flag) h
     by true y h = no h
     by false true h = no h
     by false false h = refl
+
+-- it leaves both comparators
+checked-tripped : (b : Bool) (c : ChannelState) (k : Comparator) → tripped (diodeOf b c) k ≡ tripped c k
+checked-tripped b c Therm = refl
+checked-tripped b c Therm2 = refl
 
 -- an open diode is found by a check
 open-found : (d b : Bool) → b && not d ≡ false → b ≡ isFault (foundIf d b)
@@ -320,9 +337,11 @@ module _ (s : State) (w : Well s) (t : Samples) where
       by true e = rw e
       by false e = refl
 
-  made-therm : (ch : Channel) → made ch .therm ≡ hotAfter ends ch (channelAt s ch .therm)
+  made-tripped : (ch : Channel) (k : Comparator) → tripped (made ch) k ≡ hotAfter ends k ch (tripped (channelAt s ch) k)
   unfolding convertedOf takenOf
-  made-therm ch = chosen-therm (limitsOf (storedOf s) ch) (code ch) true (channelAt s ch) (comparedIn t ch)
+  made-tripped ch k =
+      checked-tripped (brokenAt t ch) (takenOf (limitsOf (storedOf s) ch) (code ch) (comparedIn t ch) (channelAt s ch)) k
+      ∙ chosen-tripped (limitsOf (storedOf s) ch) (code ch) true (channelAt s ch) (comparedIn t ch) k
 
   made-latch : rest .latch ≡ latchAfter s ends (rest .runs)
   made-latch =
@@ -338,7 +357,7 @@ module _ (s : State) (w : Well s) (t : Samples) where
   unfolding converted
   converted-steps =
       became s (endFacts true t) (measuredView (viewOf s) t) 0 rest (storedOf s) made looks-made
-      (made-mark, ap (runsOf (s .runs)) (each-same (λ ch. comparedIn t ch && faultOf (made ch)) (limitFound ends) made-fault), made-latch, made-therm)
+      (made-mark, ap (runsOf (s .runs)) (each-same (λ ch. comparedIn t ch && faultOf (made ch)) (limitFound ends) made-fault), made-latch, made-tripped)
 
   end-steps : Steps s (entryOf (viewOf s) (Good (End t)) 0) (applyOf s (End t) .state)
   unfolding applyOf endOf
@@ -493,7 +512,7 @@ respond-steps s reply = by (alertLow s) refl
           mark = λ ch k. ap (λ (x : Channel → ChannelState). markOf (x ch) k) (channels-back (givenOf s) p (storedOf s) (channelAt s)) ∙ held ch k;
           runs = n;
           latch = l;
-          therm = λ ch. ap (λ (x : Channel → ChannelState). x ch .therm) (channels-back (givenOf s) p (storedOf s) (channelAt s));
+          therms = λ ch k. ap (λ (x : Channel → ChannelState). tripped (x ch) k) (channels-back (givenOf s) p (storedOf s) (channelAt s));
         }
 
     by : (t : Bool) → alertLow s ≡ t → Steps s (entry askFacts (viewOf s) reply) (cond t (answerOf 0 (responseOf (s .address)) (responded s)) (refused 3 s) .state)
@@ -519,7 +538,7 @@ send-steps s n false = idle s 0
 
 -- no part depends on the reply
 any-reply : {s t : State} {x : Entry} → Steps s x t → (reply : ℕ) → Steps s (entry (x .facts) (x .seen) reply) t
-any-reply {s} {t} {x} g reply = record { seen = g .seen; mark = mark; runs = g .runs; latch = g .latch; therm = g .therm }
+any-reply {s} {t} {x} g reply = record { seen = g .seen; mark = mark; runs = g .runs; latch = g .latch; therms = g .therms }
   where
     mark : (ch : Channel) (k : Fault) → markOf (channelAt t ch) k ≡ marked (entry (x .facts) (x .seen) reply) ch k (markOf (channelAt s ch) k)
     mark ch Above = g .mark ch Above

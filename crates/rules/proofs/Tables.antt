@@ -14,8 +14,10 @@ use Rattle.rules.specs.Write.{standbyCompared, stored, written}
 use Rattle.rules.specs.Alarm.{historyFrom, inARow, latched, latest, clearingReadsThatShowed, spellsOpened, stands}
 use Rattle.rules.specs.AlarmCases.{CountsMet, FormsMet, PremisesMet, counted, met}
 use Rattle.rules.specs.Assured.{uncleared, unread}
+use Rattle.rules.specs.Hot.{hot}
 use Rattle.rules.specs.BenchCases.{BenchCases, benchRows}
 use Rattle.rules.specs.FieldCases.{FieldCases, answeredWith, fieldTests}
+use Rattle.rules.specs.PinCases.{PinCases, pinRows}
 use Rattle.rules.specs.RuleCases.{RuleCases, ruleRows}
 
 -- to unfold this is to unfold all that a step computes with
@@ -31,6 +33,10 @@ pub rule-cases : RuleCases
 unfolding opened answeredAt answeredFrom gots wants ruleRows
 rule-cases = refl
 
+pub pin-cases : PinCases
+unfolding opened answeredAt answeredFrom gots wants pinRows
+pin-cases = refl
+
 pub field-cases : FieldCases
 unfolding opened answeredWith fieldTests
 field-cases = refl
@@ -43,5 +49,5 @@ pub forms-met : FormsMet
 forms-met = (refl, refl, refl)
 
 pub counts-met : CountsMet
-unfolding opened inARow latched latest clearingReadsThatShowed spellsOpened stands uncleared unread historyFrom counted
+unfolding opened hot inARow latched latest clearingReadsThatShowed spellsOpened stands uncleared unread historyFrom counted
 counts-met = refl

@@ -16,9 +16,11 @@ use Rattle.rules.specs.declared.state.State.{State}
 use Rattle.rules.specs.Bits.{bit}
 use Rattle.rules.specs.Channels.{any, anyChannel}
 use Rattle.rules.specs.Comparisons.{aboveOf, belowOf, limitsOf}
+use Rattle.rules.specs.Comparisons.Comparator.{Therm2}
 use Rattle.rules.specs.Event.{checkOf}
 use Rattle.rules.specs.History.{Entry, Finding, History, View, didOf, foundIf, now, withEvent}
 use Rattle.rules.specs.History.Finding.{MadeNone, FoundNothing, FoundFault}
+use Rattle.rules.specs.Hot.{hot}
 use Rattle.rules.specs.PowerOn.{madeOf}
 use Rattle.rules.specs.State.{channelAt, storedOf}
 use Rattle.rules.specs.Status.{Fault, Flag, flagAt, flags, placeOf}
@@ -108,7 +110,11 @@ abbrev pub sets : Entry → History → Bool
 sets x earlier =
     cond (x .facts .ended) (findsOpen x || leb (needs (x .seen .registers Consecutive)) (inARow (x ∷ earlier))) (findsLimit x)
 
--- 01: "configuration bits 7 and 5 are 0"
+-- 02, item 4: "With configuration bit 5 set, it is a second comparator": the role of pin 6
+abbrev pub inTherm2 : View → Bool
+inTherm2 v = bit 5 (v .registers Config)
+
+-- ALERT's line is free: 01, "configuration bits 7 and 5 are 0"
 abbrev pub lineFree : View → Bool
 lineFree v = not (bit 7 (v .registers Config)) && not (bit 5 (v .registers Config))
 
@@ -168,10 +174,13 @@ next s h e = withEvent (s .address) h e (stepOf s e .reply)
 pub record Shows (s : State) (h : History) : Type 0 where
   -- a status read is done, and its reply has each flag as the history has it
   pub reads : (e : Numbers) → readsNext s h e ≡ true → (stepOf s e .code ≡ 0) × ((f : Flag) → bit (placeOf f) (stepOf s e .reply) ≡ stands f h)
-  -- an alert response is answered exactly where the history has the line low; otherwise its code is 3
+  -- an alert response is answered exactly where the history has ALERT low, so never in the THERM2 role; otherwise its code is 3
   pub responses : stepOf s respond .code ≡ cond (latched h && lineFree (now (s .address) h)) 0 3
-  -- 01: "ALERT is low exactly if the latch is set and configuration bits 7 and 5 are 0": the line that every answer reports, 1 being high
-  pub line : (e : Numbers) → stepOf s e .alert ≡ not (latched (next s h e) && lineFree (now (s .address) (next s h e)))
+  -- pin 6, the line that every answer reports, 1 being high. In the ALERT role: 01, "ALERT is low exactly if the latch is set and configuration
+  -- bits 7 and 5 are 0"
+  pub pin-alert : (e : Numbers) → inTherm2 (now (s .address) (next s h e)) ≡ false → stepOf s e .alert ≡ not (latched (next s h e) && lineFree (now (s .address) (next s h e)))
+  -- in the THERM2 role: 02, item 4, "The line is low while either mark is set, whatever bit 7 says"
+  pub pin-therm2 : (e : Numbers) → inTherm2 (now (s .address) (next s h e)) ≡ true → stepOf s e .alert ≡ not (anyChannel (λ ch. hot Therm2 ch (next s h e)))
 
 -- the history of events sent to a chip in this state, whose replies are all that is asked of it
 unfoldable pub historyFrom : ℕ → History → State → List Numbers → History

@@ -12,11 +12,13 @@ use Rattle.rules.specs.declared.event.Numbers.{Numbers}
 use Rattle.rules.specs.declared.register.Channel.the-variants.{Local, Remote}
 use Rattle.rules.specs.declared.register.Register.the-variants.{RemoteHigh}
 use Rattle.rules.specs.declared.state.State.{State}
-use Rattle.rules.specs.Alarm.{historyOf, inARow, lineFree, clearingReadsThatShowed, spellsOpened, stands, stateOf, next, readsNext}
+use Rattle.rules.specs.Alarm.{count, historyOf, inARow, inTherm2, lineFree, clearingReadsThatShowed, spellsOpened, stands, stateOf, next, readsNext}
 use Rattle.rules.specs.Assured.{beyond, findsNow, nextAll, setsNow, uncleared, unread}
 use Rattle.rules.specs.Channels.{any}
+use Rattle.rules.specs.Comparisons.Comparator.{Therm, Therm2}
 use Rattle.rules.specs.Event.{checkOf}
 use Rattle.rules.specs.History.{History, comparesAt, inStandby, now}
+use Rattle.rules.specs.Hot.{hot}
 use Rattle.rules.specs.PowerOn.{madeOf}
 use Rattle.rules.specs.Status.{Flag}
 use Rattle.rules.specs.Status.Fault.{Above, Open}
@@ -73,6 +75,20 @@ never = write 0x0b 15 ∷ start ∷ end (pos 30) (pos 200) 1 ∷ []
 abbrev calm : List Numbers
 calm = status ∷ convert (pos 20) (pos 200) (status ∷ status ∷ [])
 
+-- document 02, item 4: pin 6 as THERM2, and a conversion that finds the remote channel above its high limit
+abbrev fanned : List Numbers
+fanned = write 0x09 0x20 ∷ start ∷ []
+
+abbrev fannedNow : History
+fannedNow = next (stateOf (pos 76) fanned) (historyOf (pos 76) fanned) (end (pos 20) (pos 341) 0)
+
+-- both marks set with no THERM flag, in the ALERT role; then the local one released while an open diode keeps the remote one
+abbrev tripped : List Numbers
+tripped = write 0x0b 15 ∷ write 0x19 0x7f ∷ convert (pos 20) (pos 341) []
+
+abbrev released : List Numbers
+released = tripped ++ (start ∷ end (pos 5) (pos 200) 1 ∷ [])
+
 -- a conversion runs
 abbrev running : State
 running = stateOf (pos 76) (start ∷ [])
@@ -90,7 +106,8 @@ met =
     ∷ not (unread stateNow historyNow (status ∷ [])) ∷ not (unread stateNow historyNow (reset ∷ []))
     ∷ not (uncleared stateNow historyNow acknowledged) ∷ not (uncleared stateNow historyNow (reset ∷ []))
     ∷ eqb (stepOf stateNow start .code) 4 ∷ running .busy ∷ wellFormed running ∷ now 76 (historyOf (pos 76) (start ∷ [])) .running
-    ∷ now 76 (historyOf (pos 76) pulled) .converted Remote ∷ not (now 76 (historyOf (pos 76) never) .converted Remote) ∷ []
+    ∷ now 76 (historyOf (pos 76) pulled) .converted Remote ∷ not (now 76 (historyOf (pos 76) never) .converted Remote)
+    ∷ findsNow remoteHigh fannedNow ∷ inTherm2 (now 76 fannedNow) ∷ not (inTherm2 (now 76 historyNow)) ∷ []
 
 abbrev pub PremisesMet : Type 0
 PremisesMet = any (map not met) ≡ false
@@ -109,14 +126,20 @@ abbrev countsOf : Flag → History → List ℕ
 countsOf f h =
     spellsOpened f h ∷ clearingReadsThatShowed f h ∷ inARow h ∷ now 76 h .value Local ∷ now 76 h .value Remote ∷ now 76 h .registers RemoteHigh ∷ []
 
+-- THERM's flags and THERM2's marks, local and remote
+abbrev tripsOf : History → List ℕ
+tripsOf h = count (hot Therm Local h) ∷ count (hot Therm Remote h) ∷ count (hot Therm2 Local h) ∷ count (hot Therm2 Remote h) ∷ []
+
 unfoldable pub counted : List (List ℕ)
 counted =
     countsOf remoteHigh (historyOf (pos 76) spells) ∷ countsOf remoteHigh (historyOf (pos 76) pulled)
     ∷ countsOf openFlag (historyOf (pos 76) pulled) ∷ countsOf remoteHigh (historyOf (pos 76) mended)
-    ∷ countsOf openFlag (historyOf (pos 76) mended) ∷ countsOf remoteHigh (historyOf (pos 76) never) ∷ countsOf remoteHigh (historyOf (pos 76) calm) ∷ []
+    ∷ countsOf openFlag (historyOf (pos 76) mended) ∷ countsOf remoteHigh (historyOf (pos 76) never) ∷ countsOf remoteHigh (historyOf (pos 76) calm)
+    ∷ tripsOf (historyOf (pos 76) tripped) ∷ tripsOf (historyOf (pos 76) released) ∷ tripsOf (historyOf (pos 76) spells) ∷ []
 
 abbrev pub CountsMet : Type 0
 CountsMet =
     counted
     ≡ ((2 ∷ 1 ∷ 1 ∷ 21 ∷ 342 ∷ 84 ∷ []) ∷ (1 ∷ 0 ∷ 0 ∷ 30 ∷ 341 ∷ 85 ∷ []) ∷ (1 ∷ 0 ∷ 0 ∷ 30 ∷ 341 ∷ 85 ∷ [])
-    ∷ (1 ∷ 1 ∷ 0 ∷ 20 ∷ 200 ∷ 85 ∷ []) ∷ (1 ∷ 1 ∷ 0 ∷ 20 ∷ 200 ∷ 85 ∷ []) ∷ (0 ∷ 0 ∷ 1 ∷ 30 ∷ 0 ∷ 85 ∷ []) ∷ (0 ∷ 0 ∷ 0 ∷ 20 ∷ 200 ∷ 85 ∷ []) ∷ [])
+    ∷ (1 ∷ 1 ∷ 0 ∷ 20 ∷ 200 ∷ 85 ∷ []) ∷ (1 ∷ 1 ∷ 0 ∷ 20 ∷ 200 ∷ 85 ∷ []) ∷ (0 ∷ 0 ∷ 1 ∷ 30 ∷ 0 ∷ 85 ∷ []) ∷ (0 ∷ 0 ∷ 0 ∷ 20 ∷ 200 ∷ 85 ∷ [])
+    ∷ (0 ∷ 0 ∷ 1 ∷ 1 ∷ []) ∷ (0 ∷ 0 ∷ 0 ∷ 1 ∷ []) ∷ (0 ∷ 1 ∷ 0 ∷ 1 ∷ []) ∷ [])

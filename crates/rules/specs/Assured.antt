@@ -10,13 +10,13 @@ use Rattle.rules.specs.declared.event.Event.the-variants.{Write}
 use Rattle.rules.specs.declared.event.Numbers.{Numbers}
 use Rattle.rules.specs.declared.register.Channel.{Channel}
 use Rattle.rules.specs.declared.state.State.{State}
-use Rattle.rules.specs.Alarm.{Always, acknowledges, finds, historyFrom, latched, lineFree, next, readsNext, sets, stands}
+use Rattle.rules.specs.Alarm.{Always, acknowledges, finds, historyFrom, inTherm2, latched, lineFree, next, readsNext, sets, stands}
 use Rattle.rules.specs.Bits.{bit}
 use Rattle.rules.specs.Comparisons.{aboveOf, belowOf, limitsOf}
 use Rattle.rules.specs.Event.{checkOf}
 use Rattle.rules.specs.History.{History, View, comparesAt, didOf, inStandby, now}
-use Rattle.rules.specs.Lines.{alertLine}
-use Rattle.rules.specs.Status.{Fault, Flag, placeOf}
+use Rattle.rules.specs.Lines.{alertLow, pinLine}
+use Rattle.rules.specs.Status.{Fault, Flag, flagFor, placeOf}
 use Rattle.rules.specs.Status.Fault.{Above, Below, Open}
 use Rattle.rules.specs.Step.{after, stepOf}
 
@@ -63,11 +63,12 @@ abbrev pub NoneInvented : Type 0
 NoneInvented =
     Always (λ s h. (r : Numbers) (f : Flag) → readsNext s h r ≡ true → stands f h ≡ false → bit (placeOf f) (stepOf s r .reply) ≡ false)
 
--- from what set the latch until an alert response is answered with all flags 0, ALERT is low while configuration bits 7 and 5 are 0
+-- from what set the latch until an alert response is answered with all flags 0, ALERT is low while configuration bits 7 and 5 are 0, and
+-- pin 6 shows it: 02, item 4, so also when bit 5 was 1 in between
 abbrev pub AlertStaysLow : Type 0
 AlertStaysLow =
     Always (λ s h. (later : List Numbers) → setsNow h ≡ true → uncleared s h later ≡ true
-    → lineFree (now (s .address) (nextAll s h later)) ≡ true → alertLine (after s later) ≡ false)
+    → lineFree (now (s .address) (nextAll s h later)) ≡ true → (alertLow (after s later) ≡ true) × (pinLine (after s later) ≡ false))
 
 -- the value stands beyond a limit
 abbrev pub beyond : View → Channel → Fault → Bool
@@ -93,8 +94,14 @@ StandbyLimitShown =
     → readsNext (after (stepOf s e .state) later) (nextAll (stepOf s e .state) (next s h e) later) r ≡ true
     → bit (placeOf (record { channel = ch; fault = k })) (stepOf (after (stepOf s e .state) later) r .reply) ≡ true)
 
--- and ALERT is low at once while configuration bits 7 and 5 are 0
+-- and pin 6 is low at once while configuration bits 7 and 5 are 0
 abbrev pub StandbyLimitAlerts : Type 0
 StandbyLimitAlerts =
     Always (λ s h. (e : Numbers) (ch : Channel) (k : Fault) → StandbyFault s h e ch k
     → lineFree (now (s .address) (next s h e)) ≡ true → stepOf s e .alert ≡ false)
+
+-- 02, item 4: in the THERM2 role a value that a comparison finds above its high limit pulls pin 6 at once, "whatever bit 7 says"
+abbrev pub Therm2Pulls : Type 0
+Therm2Pulls =
+    Always (λ s h. (e : Numbers) (ch : Channel) → findsNow (flagFor ch Above) (next s h e) ≡ true
+    → inTherm2 (now (s .address) (next s h e)) ≡ true → stepOf s e .alert ≡ false)

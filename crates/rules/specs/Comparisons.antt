@@ -1,4 +1,5 @@
--- Comparisons: high, low and THERM with its hysteresis, once for every channel over its limits in its own codes. Assumes nothing.
+-- Comparisons: high, low, and THERM and THERM2 with their hysteresis, once for every channel over its limits in its own codes. Assumes
+-- nothing.
 use Prim.Native.Nat.{ℕ, _+_, _*_, _-_, _/_}
 use mathlib.Core.Bool.{Bool, cond, _||_, _&&_, true, false}
 use lib.Dec.{ltb, leb}
@@ -35,17 +36,30 @@ aboveOf limit value = ltb limit value
 abbrev pub belowOf : ℕ → ℕ → Bool
 belowOf limit value = leb value limit
 
--- the comparator: "set when the value is above the limit, cleared when at or below (limit - hysteresis, not under 0), otherwise
--- kept"; the difference of two numbers is not under 0
+-- the comparator of THERM and of THERM2: "set when the value is above the limit, cleared when at or below (limit - hysteresis, not under
+-- 0), otherwise kept"; the difference of two numbers is not under 0
 abbrev pub comparatorOf : ℕ → ℕ → ℕ → Bool → Bool
 comparatorOf limit hysteresis value was =
     cond (ltb limit value) true (cond (leb value (limit - hysteresis)) false was)
+
+pub data Comparator : Type 0 where
+  Therm : Comparator
+  Therm2 : Comparator
+
+-- the limit of each: THERM has its own; 02, item 4: THERM2 is "set above the high limit"
+abbrev pub limitFor : Comparator → Limits → ℕ
+limitFor Therm l = l .therm
+limitFor Therm2 l = l .high
+
+-- what a comparison leaves of a comparator that was so
+abbrev pub trippedOf : Comparator → Limits → ℕ → Bool → Bool
+trippedOf k l value was = comparatorOf (limitFor k l) (l .hysteresis) value was
 
 -- Status, "Flags 6 to 2 are set by a comparison that finds the fault": what it found is the latest verdict
 abbrev pub verdictOf : Mark → Bool → Mark
 verdictOf m fault = record { found = fault; flag = m .flag || fault }
 
--- one channel compared: both limits, and THERM
+-- one channel compared: both limits, and THERM; 02, item 4: THERM2's mark is "worked out at the same comparisons as THERM"
 unfoldable pub comparedOf : Limits → ChannelState → ChannelState
 comparedOf l c =
     record {
@@ -54,7 +68,8 @@ comparedOf l c =
       high = verdictOf (c .high) (aboveOf (l .high) (c .value));
       low = verdictOf (c .low) (belowOf (l .low) (c .value));
       diode = c .diode;
-      therm = comparatorOf (l .therm) (l .hysteresis) (c .value) (c .therm);
+      therm = trippedOf Therm l (c .value) (c .therm);
+      therm2 = trippedOf Therm2 l (c .value) (c .therm2);
     }
 
 -- "compares each channel converted since power-on"
@@ -71,6 +86,7 @@ diodeOf broken c =
       low = c .low;
       diode = verdictOf (c .diode) broken;
       therm = c .therm;
+      therm2 = c .therm2;
     }
 
 -- a limit fault was found when the channel was last compared; one never converted was not compared

@@ -25,10 +25,10 @@ codeFor f ch sample =
 -- the code in the value register, which makes the channel converted
 abbrev pub measuredOf : ℕ → ChannelState → ChannelState
 measuredOf code c =
-    record { value = code; converted = true; high = c .high; low = c .low; diode = c .diode; therm = c .therm }
+    record { value = code; converted = true; high = c .high; low = c .low; diode = c .diode; therm = c .therm; therm2 = c .therm2 }
 
 -- stored, then compared; 02: of a channel that the conversion does not compare, value, THERM flag and latest limit verdicts "stand as they
--- were", and "it doesn't count as a conversion; earlier ones still do"
+-- were", and "it doesn't count as a conversion; earlier ones still do"; THERM2's mark goes with THERM's flag
 unfoldable pub takenOf : Limits → ℕ → Bool → ChannelState → ChannelState
 takenOf limits code compares c = cond compares (comparedOf limits (measuredOf code c)) c
 

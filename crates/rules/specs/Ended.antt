@@ -18,16 +18,16 @@ use Rattle.rules.specs.declared.state.ChannelState.{ChannelState}
 use Rattle.rules.specs.declared.state.Mark.{Mark}
 use Rattle.rules.specs.declared.state.State.{State}
 use Rattle.rules.specs.Alarm.{inARow, latest, needs, sets, stands}
-use Rattle.rules.specs.Comparisons.{comparatorOf, limitsOf}
+use Rattle.rules.specs.Comparisons.{Comparator, comparatorOf, limitsOf}
 use Rattle.rules.specs.Conversion.{codeFor}
 use Rattle.rules.specs.Event.{checkOf}
 use Rattle.rules.specs.History.{Entry, History, View, entryOf, now, outcome}
 use Rattle.rules.specs.History.Finding.{FoundFault}
+use Rattle.rules.specs.Hot.{hot}
 use Rattle.rules.specs.State.{channelAt, storedOf}
 use Rattle.rules.specs.Status.{flagFor}
 use Rattle.rules.specs.Status.Fault.{Above, Below, Open}
 use Rattle.rules.specs.Step.{stepOf}
-use Rattle.rules.specs.Therm.{hot}
 use Rattle.rules.specs.WellFormed.{wellFormed}
 
 -- a code beyond a channel's limits, by the registers
@@ -54,12 +54,14 @@ pub record Stored (f : Register → ℕ) (ch : Channel) (code : ℕ) (was is : C
   pub high : is .high ≡ found (over f ch code) (was .high)
   pub low : is .low ≡ found (under f ch code) (was .low)
   pub therm : is .therm ≡ comparatorOf (limitsOf f ch .therm) (limitsOf f ch .hysteresis) code (was .therm)
+  pub therm2 : is .therm2 ≡ comparatorOf (limitsOf f ch .high) (limitsOf f ch .hysteresis) code (was .therm2)
 
 -- "the remote value, remote THERM flag and the latest remote limit verdicts stand as they were", and so the flags of these; "it doesn't count
--- as a conversion; earlier ones still do"
+-- as a conversion; earlier ones still do"; the THERM2 mark, worked out at the comparisons of THERM, stands too
 pub record Stood (was is : ChannelState) : Type 0 where
   pub value : is .value ≡ was .value
   pub therm : is .therm ≡ was .therm
+  pub therm2 : is .therm2 ≡ was .therm2
   pub high : is .high ≡ was .high
   pub low : is .low ≡ was .low
   pub converted : is .converted ≡ was .converted
@@ -116,7 +118,7 @@ pub record Passed (v : View) (h : History) (x : Entry) (code : ℕ) : Type 0 whe
   pub high : stands (flagFor Remote Above) (x ∷ h) ≡ stands (flagFor Remote Above) h
   pub low : stands (flagFor Remote Below) (x ∷ h) ≡ stands (flagFor Remote Below) h
   pub opened : stands (flagFor Remote Open) (x ∷ h) ≡ true
-  pub therm : hot Remote (x ∷ h) ≡ hot Remote h
+  pub therms : (k : Comparator) → hot k Remote (x ∷ h) ≡ hot k Remote h
   pub latches : sets x h ≡ true
   pub local-high : latest (flagFor Local Above) (x ∷ h) ≡ outcome (over (v .registers) Local code)
   pub local-low : latest (flagFor Local Below) (x ∷ h) ≡ outcome (under (v .registers) Local code)

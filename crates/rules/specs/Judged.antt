@@ -15,7 +15,7 @@ use Rattle.rules.specs.declared.state.State.{State}
 use Rattle.rules.specs.Alarm.{viewOf}
 use Rattle.rules.specs.Event.{checkOf, checkedCode}
 use Rattle.rules.specs.History.{didOf}
-use Rattle.rules.specs.Lines.{alertLine, alertLow, thermLine}
+use Rattle.rules.specs.Lines.{alertLow, pinLine, thermLine}
 use Rattle.rules.specs.Rows.{trimOf}
 use Rattle.rules.specs.State.{channelAt, storedOf}
 use Rattle.rules.specs.Status.{Flag, flagAt, flagFor, markAt, shownOf}
@@ -45,9 +45,9 @@ ChecksFirst = (s : State) → wellFormed s ≡ true → (n : Numbers) (code : �
 abbrev pub CheckedNumbers : Type 0
 CheckedNumbers = ((e : Event) → checkedCode (Good e) ≡ 0) × ((code : ℕ) → checkedCode (Bad code) ≡ code)
 
--- "alert and therm are read from that state", whatever the state and the event
+-- "alert and therm are read from that state", whatever the state and the event: alert is pin 6
 abbrev pub LinesRead : Type 0
-LinesRead = (s : State) (n : Numbers) → (stepOf s n .alert ≡ alertLine (stepOf s n .state)) × (stepOf s n .therm ≡ thermLine (stepOf s n .state))
+LinesRead = (s : State) (n : Numbers) → (stepOf s n .alert ≡ pinLine (stepOf s n .state)) × (stepOf s n .therm ≡ thermLine (stepOf s n .state))
 
 -- "then each of 6 to 2 whose latest comparison found no fault (or has none) is cleared"; and none is set
 pub record ShownMark (m : Mark) : Type 0 where

@@ -49,6 +49,7 @@ pub record ChannelLeft (f : Register → ℕ) (ch : Channel) (compares reads : B
   pub low : is .low ≡ cond reads (shown (was .low)) (cond compares (found (under f ch (is .value)) (was .low)) (was .low))
   pub diode : is .diode ≡ cond reads (shown (was .diode)) (was .diode)
   pub therm : is .therm ≡ cond compares (comparatorOf (limitsOf f ch .therm) (limitsOf f ch .hysteresis) (is .value) (was .therm)) (was .therm)
+  pub therm2 : is .therm2 ≡ cond compares (comparatorOf (limitsOf f ch .high) (limitsOf f ch .hysteresis) (is .value) (was .therm2)) (was .therm2)
 
 pub record LeftBy (at : ℕ) (compares : Channel → Bool) (reads : Bool) (s left : State) : Type 0 where
   pub pointer : left .pointer ≡ at

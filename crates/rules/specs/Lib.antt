@@ -21,9 +21,11 @@ pub mod Step
 pub mod Trial
 pub mod BenchCases
 pub mod RuleCases
+pub mod PinCases
 pub mod FieldCases
 pub mod Sound
 pub mod History
+pub mod Hot
 pub mod Alarm
 pub mod Assured
 pub mod AlarmCases

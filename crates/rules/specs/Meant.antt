@@ -3,7 +3,7 @@
 -- nothing.
 use Prim.Native.Nat.{ℕ, zero, suc, _+_, _*_, _/_, _^_, _≤_, _<_}
 use mathlib.Core.Path.{_≡_}
-use mathlib.Core.Bool.{Bool, true, false, not, _&&_, _||_}
+use mathlib.Core.Bool.{Bool, cond, true, false, not, _&&_, _||_}
 use mathlib.Core.List.{List, [], _∷_, map}
 use lib.IntN.{ℤ, _+ℤ_, _-ℤ_}
 use lib.IntN.ℤ.{pos, negsuc}
@@ -12,12 +12,14 @@ use Rattle.rules.specs.declared.register.Channel.the-variants.{Local, Re
 use Rattle.rules.specs.declared.register.Register.{Register}
 use Rattle.rules.specs.declared.register.Register.the-variants.{Config, Hysteresis, LocalHigh, LocalLow, LocalTherm, RemoteHigh, RemoteHighFine, RemoteLow, RemoteLowFine, RemoteOffset, RemoteOffsetFine, RemoteTherm}
 use Rattle.rules.specs.declared.event.Samples.{Samples}
+use Rattle.rules.specs.declared.state.Limits.{Limits}
 use Rattle.rules.specs.declared.state.State.{State}
 use Rattle.rules.specs.Bits.{bit, weight}
 use Rattle.rules.specs.Channels.{all, any, anyChannel, brokenAt, comparedIn, sampleAt, sum, traits}
-use Rattle.rules.specs.Comparisons.{aboveOf, belowOf, comparatorOf, limitsOf}
+use Rattle.rules.specs.Comparisons.{aboveOf, belowOf, comparatorOf, limitsOf, trippedOf}
+use Rattle.rules.specs.Comparisons.Comparator.{Therm, Therm2}
 use Rattle.rules.specs.Conversion.{codeFor}
-use Rattle.rules.specs.Lines.{alertLine, alertLow, thermLine}
+use Rattle.rules.specs.Lines.{alertLow, pinLine, thermLine}
 use Rattle.rules.specs.PowerOn.{madeOf}
 use Rattle.rules.specs.Rows.{keptBits, keptIn, rowOf, trimOf}
 use Rattle.rules.specs.Rows.Keeps.{All, Bits7652, Bits76}
@@ -37,15 +39,22 @@ pub record Ordered (limit value : ℕ) : Type 0 where
 abbrev pub ComparisonsOrder : Type 0
 ComparisonsOrder = (limit value : ℕ) → Ordered limit value
 
--- THERM: "set when the value is above the limit, cleared when at or below (limit - hysteresis, not under 0), otherwise kept"
-pub record Comparing (limit hysteresis value : ℕ) (was : Bool) : Type 0 where
-  pub set : limit < value → comparatorOf limit hysteresis value was ≡ true
-  pub cleared : value + hysteresis ≤ limit → comparatorOf limit hysteresis value was ≡ false
-  pub at-zero : value ≡ 0 → comparatorOf limit hysteresis value was ≡ false
-  pub kept : 0 < value → limit < value + hysteresis → value ≤ limit → comparatorOf limit hysteresis value was ≡ was
+-- THERM, and 02's THERM2: "set when the value is above the limit, cleared when at or below (limit - hysteresis, not under 0), otherwise kept".
+-- One law of both, over limit and scale: limit and value in codes, the hysteresis in degrees of scale codes each
+pub record Comparing (scale limit hysteresis value : ℕ) (was : Bool) : Type 0 where
+  pub set : limit < value → comparatorOf limit (scale * hysteresis) value was ≡ true
+  pub cleared : value + scale * hysteresis ≤ limit → comparatorOf limit (scale * hysteresis) value was ≡ false
+  pub at-zero : value ≡ 0 → comparatorOf limit (scale * hysteresis) value was ≡ false
+  pub kept : 0 < value → limit < value + scale * hysteresis → value ≤ limit → comparatorOf limit (scale * hysteresis) value was ≡ was
 
-abbrev pub ThermCompares : Type 0
-ThermCompares = (limit hysteresis value : ℕ) (was : Bool) → Comparing limit hysteresis value was
+abbrev pub ComparatorMeans : Type 0
+ComparatorMeans = (scale limit hysteresis value : ℕ) (was : Bool) → Comparing scale limit hysteresis value was
+
+-- 02, item 4: THERM2 is "set above the high limit", THERM above its own; both are by the one hysteresis
+abbrev pub TrippedMeans : Type 0
+TrippedMeans =
+    (l : Limits) (value : ℕ) (was : Bool) → (trippedOf Therm l value was ≡ comparatorOf (l .therm) (l .hysteresis) value was)
+    × (trippedOf Therm2 l value was ≡ comparatorOf (l .high) (l .hysteresis) value was)
 
 -- "Remote limits are 4 times the high byte plus low byte over 64"; "For the remote channel both sides count 4 codes per degree."
 abbrev pub LimitsMean : Type 0
@@ -158,10 +167,11 @@ pub record Makes : Type 0 where
 abbrev pub MadeMeans : Type 0
 MadeMeans = Makes
 
--- "all else 00, pointer 00, no channel yet converted, no comparison made, run count 0", at either address
+-- "all else 00, pointer 00, no channel yet converted, no comparison made, run count 0", at either address; 02, item 4: the marks "are clear at
+-- power-on"
 pub record New (s : State) : Type 0 where
   pub rest : restOf s ≡ record { pointer = 0; busy = false; runs = 0; latch = false }
-  pub channels : (ch : Channel) → channelAt s ch ≡ record { value = 0; converted = false; high = record { found = false; flag = false }; low = record { found = false; flag = false }; diode = record { found = false; flag = false }; therm = false }
+  pub channels : (ch : Channel) → channelAt s ch ≡ record { value = 0; converted = false; high = record { found = false; flag = false }; low = record { found = false; flag = false }; diode = record { found = false; flag = false }; therm = false; therm2 = false }
 
 abbrev pub NewMeans : Type 0
 NewMeans = New (madeOf (pos 76) .state) × New (madeOf (pos 77) .state)
@@ -171,8 +181,11 @@ abbrev pub NeedsMean : Type 0
 NeedsMean =
     (b : ℕ) → neededOf b ≡ 1 + (weight (bit 1 b) 1 + (weight (bit 1 b && bit 2 b) 1 + weight (bit 1 b && (bit 2 b && bit 3 b)) 1))
 
--- "ALERT is low exactly if the latch is set and configuration bits 7 and 5 are 0. THERM is low exactly if flag 1 or 0 is set."
+-- "ALERT is low exactly if the latch is set and configuration bits 7 and 5 are 0. THERM is low exactly if flag 1 or 0 is set." Pin 6, by its
+-- role: bit 5 set, "low while either mark is set, whatever bit 7 says"; bit 5 clear, as ALERT
 abbrev pub LinesMean : Type 0
 LinesMean =
-    (s : State) → (alertLow s ≡ (s .latch && (not (bit 7 (s .config)) && not (bit 5 (s .config))))) × (alertLine s ≡ not (alertLow s))
+    (s : State) → (alertLow s ≡ (s .latch && (not (bit 7 (s .config)) && not (bit 5 (s .config)))))
+    × (bit 5 (s .config) ≡ true → pinLine s ≡ not (channelAt s Local .therm2 || channelAt s Remote .therm2))
+    × (bit 5 (s .config) ≡ false → pinLine s ≡ not (s .latch && not (bit 7 (s .config))))
     × (thermLine s ≡ not (channelAt s Local .therm || channelAt s Remote .therm))

@@ -17,9 +17,10 @@ use Rattle.rules.specs.State.{Rest, stateFrom}
 abbrev pub noMark : Mark
 noMark = record { found = false; flag = false }
 
--- "no channel yet converted, no comparison made"
+-- "no channel yet converted, no comparison made"; 02, item 4: the marks "are clear at power-on"
 abbrev pub newChannel : ChannelState
-newChannel = record { value = 0; converted = false; high = noMark; low = noMark; diode = noMark; therm = false }
+newChannel =
+    record { value = 0; converted = false; high = noMark; low = noMark; diode = noMark; therm = false; therm2 = false }
 
 -- "pointer 00, .. run count 0"
 abbrev pub newRest : Rest

@@ -133,9 +133,9 @@ ruleRows =
     -- no sample of a closed diode holds anything back
     row (answered (convert (pos 20) (pos 32767) (read 0x01 ∷ []))) (0 ∷ 127 ∷ 0 ∷ 0 ∷ []) ∷
     row (answered (convert (pos 20) (negsuc 32767) (status ∷ []))) (0 ∷ 8 ∷ 0 ∷ 1 ∷ []) ∷
-    -- bits 7 and 5: ALERT is high, and the latch is kept
+    -- bits 7 and 5: no alert response is answered, and the latch is kept; with bit 5 pin 6 has the mark
     row (answered (highTherm ∷ hot (write 0x09 128 ∷ []))) (0 ∷ 0 ∷ 1 ∷ 1 ∷ []) ∷
-    row (answered (highTherm ∷ hot (write 0x09 32 ∷ respond ∷ []))) (3 ∷ 0 ∷ 1 ∷ 1 ∷ []) ∷
+    row (answered (highTherm ∷ hot (write 0x09 32 ∷ respond ∷ []))) (3 ∷ 0 ∷ 0 ∷ 1 ∷ []) ∷
     row (answered (highTherm ∷ hot (write 0x09 32 ∷ write 0x09 0 ∷ []))) (0 ∷ 0 ∷ 0 ∷ 1 ∷ []) ∷
     -- bit 6 from 0 to 1 ends a running conversion with no result
     row (answered (start ∷ write 0x09 64 ∷ status ∷ [])) (0 ∷ 0 ∷ 1 ∷ 1 ∷ []) ∷

@@ -48,7 +48,7 @@ pub record Zeros (s : State) : Type 0 where
   pub address : s .address ≡ 0
   pub rest : restOf s ≡ record { pointer = 0; busy = false; runs = 0; latch = false }
   pub registers : (r : Register) → storedOf s r ≡ 0
-  pub channels : (ch : Channel) → channelAt s ch ≡ record { value = 0; converted = false; high = record { found = false; flag = false }; low = record { found = false; flag = false }; diode = record { found = false; flag = false }; therm = false }
+  pub channels : (ch : Channel) → channelAt s ch ≡ record { value = 0; converted = false; high = record { found = false; flag = false }; low = record { found = false; flag = false }; diode = record { found = false; flag = false }; therm = false; therm2 = false }
 
 abbrev pub ZerosAfterCode2 : Type 0
 ZerosAfterCode2 = (address : ℤ) → madeOf address .code ≡ 2 → Zeros (madeOf address .state)

@@ -43,6 +43,7 @@ channelAt s Local =
       low = record { found = s .locallowfound; flag = s .locallowflag };
       diode = record { found = s .localdiodefound; flag = s .localdiodeflag };
       therm = s .localthermflag;
+      therm2 = s .localtherm2mark;
     }
 channelAt s Remote =
     record {
@@ -52,6 +53,7 @@ channelAt s Remote =
       low = record { found = s .remotelowfound; flag = s .remotelowflag };
       diode = record { found = s .remotediodefound; flag = s .remotediodeflag };
       therm = s .remotethermflag;
+      therm2 = s .remotetherm2mark;
     }
 
 -- what belongs to no channel, is no register, and is not given
@@ -90,6 +92,7 @@ stateFrom g p f c =
       localdiodefound = c Local .diode .found;
       localdiodeflag = c Local .diode .flag;
       localthermflag = c Local .therm;
+      localtherm2mark = c Local .therm2;
       remotehigh = f RemoteHigh;
       remotehighfine = f RemoteHighFine;
       remotelow = f RemoteLow;
@@ -106,6 +109,7 @@ stateFrom g p f c =
       remotediodefound = c Remote .diode .found;
       remotediodeflag = c Remote .diode .flag;
       remotethermflag = c Remote .therm;
+      remotetherm2mark = c Remote .therm2;
     }
 
 -- ---- One part changed, the others as they were ----

@@ -77,6 +77,7 @@ shownChannel c =
       low = shownOf (c .low);
       diode = shownOf (c .diode);
       therm = c .therm;
+      therm2 = c .therm2;
     }
 
 -- the state after register 02 was read

@@ -15,7 +15,7 @@ use Rattle.rules.specs.declared.answer.Done.{Done}
 use Rattle.rules.specs.Configuration.{standby}
 use Rattle.rules.specs.Conversion.{converted}
 use Rattle.rules.specs.Event.{checkOf, checkedCode}
-use Rattle.rules.specs.Lines.{alertLow, alertLine, thermLine}
+use Rattle.rules.specs.Lines.{alertLow, pinLine, thermLine}
 use Rattle.rules.specs.PowerOn.{powerOn}
 use Rattle.rules.specs.Read.{readAtPointer}
 use Rattle.rules.specs.State.{givenOf, withBusy, withLatch, withPointer}
@@ -23,9 +23,9 @@ use Rattle.rules.specs.Status.{anyFlag}
 use Rattle.rules.specs.WellFormed.{wellFormed}
 use Rattle.rules.specs.Write.{written}
 
--- Answer codes: alert and therm are read from the state that the answer gives
+-- Answer codes: alert and therm are read from the state that the answer gives; 02, item 4: alert "reports pin 6 in either role"
 abbrev pub answerOf : ℕ → ℕ → State → Answer
-answerOf code reply s = record { code = code; reply = reply; alert = alertLine s; therm = thermLine s; state = s }
+answerOf code reply s = record { code = code; reply = reply; alert = pinLine s; therm = thermLine s; state = s }
 
 -- "0, done"
 abbrev pub done : Done → Answer

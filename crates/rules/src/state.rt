@@ -12,8 +12,8 @@ pub struct Mark {
     pub flag: bool,
 }
 
-// One channel but for its registers: its value, whether it was ever converted, and what comparisons left behind. A channel with no
-// diode has a clear mark of one.
+// One channel but for its registers: its value, whether it was ever converted, and what comparisons left behind, the flag of THERM and
+// the mark of THERM2 among it. A channel with no diode has a clear mark of one.
 pub struct ChannelState {
     pub value: u16,
     pub converted: bool,
@@ -21,6 +21,7 @@ pub struct ChannelState {
     pub low: Mark,
     pub diode: Mark,
     pub therm: bool,
+    pub therm2: bool,
 }
 
 // What one channel is compared with, in its own codes.
@@ -53,6 +54,7 @@ pub struct State {
     pub localdiodefound: bool,
     pub localdiodeflag: bool,
     pub localthermflag: bool,
+    pub localtherm2mark: bool,
     pub remotehigh: u8,
     pub remotehighfine: u8,
     pub remotelow: u8,
@@ -69,5 +71,6 @@ pub struct State {
     pub remotediodefound: bool,
     pub remotediodeflag: bool,
     pub remotethermflag: bool,
+    pub remotetherm2mark: bool,
     pub pointer: u8,
 }

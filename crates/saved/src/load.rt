@@ -29,7 +29,7 @@ fn word(b: &[u8], i: u8) -> u16
     (low as u16) + 256 * (high as u16)
 }
 
-// A channel from its ten bytes.
+// A channel from its eleven bytes.
 fn channel(b: &[u8], i: u8) -> ChannelState
     ensures { λ r. ⌜ r ≡ channelFrom (now (b .entry)) i ⌝ }
 {
@@ -50,6 +50,7 @@ fn channel(b: &[u8], i: u8) -> ChannelState
             flag: flag(b, at + 8),
         },
         therm: flag(b, at + 9),
+        therm2: flag(b, at + 10),
     }
 }
 
@@ -57,7 +58,7 @@ pub fn load(b: &[u8]) -> State
     ensures { λ r. ⌜ r ≡ stateAt (now (b .entry)) ⌝ }
 {
     let l = channel(b, 20);
-    let r = channel(b, 30);
+    let r = channel(b, 31);
     State {
         address: byte(b, 1),
         pointer: byte(b, 2),
@@ -80,6 +81,7 @@ pub fn load(b: &[u8]) -> State
         localdiodefound: l.diode.found,
         localdiodeflag: l.diode.flag,
         localthermflag: l.therm,
+        localtherm2mark: l.therm2,
         remotehigh: byte(b, 10),
         remotehighfine: byte(b, 14),
         remotelow: byte(b, 11),
@@ -96,5 +98,6 @@ pub fn load(b: &[u8]) -> State
         remotediodefound: r.diode.found,
         remotediodeflag: r.diode.flag,
         remotethermflag: r.therm,
+        remotetherm2mark: r.therm2,
     }
 }

@@ -23,12 +23,12 @@ fn high(v: u16) -> u8
     (v / 256) as u8
 }
 
-// The 40 bytes that have a meaning.
-fn front(s: State) -> [u8; 40]
+// The 42 bytes that have a meaning, the layout's number first.
+fn front(s: State) -> [u8; 42]
     ensures { λ r. ⌜ r ≡ frontOf s ⌝ }
 {
     [
-        1,
+        2,
         s.address,
         s.pointer,
         bit(s.busy),
@@ -58,6 +58,7 @@ fn front(s: State) -> [u8; 40]
         bit(s.localdiodefound),
         bit(s.localdiodeflag),
         bit(s.localthermflag),
+        bit(s.localtherm2mark),
         low(s.remotevalue),
         high(s.remotevalue),
         bit(s.remoteconverted),
@@ -68,6 +69,7 @@ fn front(s: State) -> [u8; 40]
         bit(s.remotediodefound),
         bit(s.remotediodeflag),
         bit(s.remotethermflag),
+        bit(s.remotetherm2mark),
     ]
 }
 

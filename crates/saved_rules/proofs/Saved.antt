@@ -29,7 +29,7 @@ word-back v = omega arith
 loaded : (s : State) → stateAt (saveOf s) ≡ s
 unfolding frontOf saveOf stateAt
 loaded s =
-    simp (flag-back (s .busy), flag-back (s .latch), word-back (s .localvalue), word-back (s .remotevalue), flag-back (s .localconverted), flag-back (s .localhighfound), flag-back (s .localhighflag), flag-back (s .locallowfound), flag-back (s .locallowflag), flag-back (s .localdiodefound), flag-back (s .localdiodeflag), flag-back (s .localthermflag), flag-back (s .remoteconverted), flag-back (s .remotehighfound), flag-back (s .remotehighflag), flag-back (s .remotelowfound), flag-back (s .remotelowflag), flag-back (s .remotediodefound), flag-back (s .remotediodeflag), flag-back (s .remotethermflag))
+    simp (flag-back (s .busy), flag-back (s .latch), word-back (s .localvalue), word-back (s .remotevalue), flag-back (s .localconverted), flag-back (s .localhighfound), flag-back (s .localhighflag), flag-back (s .locallowfound), flag-back (s .locallowflag), flag-back (s .localdiodefound), flag-back (s .localdiodeflag), flag-back (s .localthermflag), flag-back (s .localtherm2mark), flag-back (s .remoteconverted), flag-back (s .remotehighfound), flag-back (s .remotehighflag), flag-back (s .remotelowfound), flag-back (s .remotelowflag), flag-back (s .remotediodefound), flag-back (s .remotediodeflag), flag-back (s .remotethermflag), flag-back (s .remotetherm2mark))
 
 taken : (s : State) → isSaved (saveOf s) ≡ true
 unfolding isSaved

@@ -21,26 +21,26 @@ flag set = cond set 1 0
 -- the layout's number; what was given; what is no register and belongs to no channel
 abbrev pub headOf : State → List ℕ
 headOf s =
-    1 ∷ givenOf s .address ∷ restOf s .pointer ∷ flag (restOf s .busy) ∷ restOf s .runs ∷ flag (restOf s .latch) ∷ []
+    2 ∷ givenOf s .address ∷ restOf s .pointer ∷ flag (restOf s .busy) ∷ restOf s .runs ∷ flag (restOf s .latch) ∷ []
 
 abbrev pub markOf : Mark → List ℕ
 markOf m = flag (m .found) ∷ flag (m .flag) ∷ []
 
--- its value, low byte first, and its flags
+-- its value, low byte first, its flags, and its THERM2 mark
 abbrev pub channelOf : ChannelState → List ℕ
 channelOf c =
-    c .value % 256 ∷ c .value / 256 ∷ flag (c .converted) ∷ (markOf (c .high) ++ markOf (c .low) ++ markOf (c .diode) ++ (flag (c .therm) ∷ []))
+    c .value % 256 ∷ c .value / 256 ∷ flag (c .converted) ∷ (markOf (c .high) ++ markOf (c .low) ++ markOf (c .diode) ++ (flag (c .therm) ∷ flag (c .therm2) ∷ []))
 
--- the 40 bytes that have a meaning: the registers stand in the order of their rows
+-- the 42 bytes that have a meaning: the registers stand in the order of their rows
 unfoldable pub frontOf : State → List ℕ
 frontOf s = headOf s ++ map (storedOf s) registers ++ channelOf (channelAt s Local) ++ channelOf (channelAt s Remote)
 
 unfoldable pub saveOf : State → List ℕ
-saveOf s = frontOf s ++ replicate 88 0
+saveOf s = frontOf s ++ replicate 86 0
 
 -- what has a meaning, at the front of a saved chip; any other length is left as it is
 abbrev pub frontOver : List ℕ → List ℕ → List ℕ
-frontOver front before = cond (eqb (length before) 128) (front ++ drop 40 before) before
+frontOver front before = cond (eqb (length before) 128) (front ++ drop 42 before) before
 
 abbrev pub savedOver : List ℕ → List ℕ → List ℕ
 savedOver saved before = cond (eqb (length before) 128) saved before
@@ -67,6 +67,7 @@ channelFrom b n =
       low = markAt b (n + 5) (n + 6);
       diode = markAt b (n + 7) (n + 8);
       therm = isSet (getD b (n + 9) 0);
+      therm2 = isSet (getD b (n + 10) 0);
     }
 
 unfoldable pub stateAt : List ℕ → State
@@ -74,7 +75,7 @@ stateAt b =
     stateFrom (record { address = getD b 1 0 })
     (record { pointer = getD b 2 0; busy = isSet (getD b 3 0); runs = getD b 4 0; latch = isSet (getD b 5 0) })
     (λ r. getD b (6 + placeIn r registers) 0)
-    (λ ch. channelFrom b (20 + 10 * numberOf ch))
+    (λ ch. channelFrom b (20 + 11 * numberOf ch))
 
 -- bytes are a saved state if they are what the state that they hold is saved as
 unfoldable pub sameBytes : List ℕ → List ℕ → Bool

@@ -8,12 +8,12 @@ use Rattle.session_rules.specs.Session.{isSession, openedOf, partial}
 use Rattle.session_rules.specs.Portion.{feedOf, refusedWith, reportAfter}
 use Rattle.session_rules.specs.Bytes.{bytesOf, headOf, heldIn, isHeld}
 use Rattle.session_rules.specs.Face.{feedInto, openOf}
-use Rattle.session_rules.specs.SessionCases.{FeedCases, OpenCases, begun, busy, feedRows, fresh, longest, openings, openingsWanted, other, runs, started}
+use Rattle.session_rules.specs.SessionCases.{FeedCases, OpenCases, begun, busy, earlier, feedRows, fresh, longest, openings, openingsWanted, other, runs, started}
 
 pub open-cases : OpenCases
 unfolding opened bytesOf frontOf fresh headOf openOf openedOf openings openingsWanted other saveOf
 open-cases = refl
 
 pub feed-cases : FeedCases
-unfolding examples.opened begun busy bytesOf feedInto feedOf feedRows frontOf fresh headOf heldIn isHeld isSession longest partial refusedWith reportAfter runFrom runOf runs sameBytes saveOf started stateAt
+unfolding examples.opened begun busy bytesOf earlier feedInto feedOf feedRows frontOf fresh headOf heldIn isHeld isSession longest partial refusedWith reportAfter runFrom runOf runs sameBytes saveOf started stateAt
 feed-cases = refl

@@ -8,18 +8,22 @@ use lib.IntN.ℤ.{negsuc, pos}
 use lib.ListN.{length, replicate}
 use Rattle.session_rules.specs.Face.{Feeding, Opening, feedInto, openOf}
 
--- what is not 0 of a chip that was just powered on at 76, and at 77; of one in which a conversion runs; of one with a run count of 5
+-- what is not 0 of a chip that was just powered on at 76, and at 77; of one in which a conversion runs; of one with a run count of 5;
+-- of one in the chip's earlier layout, of number 1
 unfoldable pub fresh : List ℕ
-fresh = 1 ∷ 76 ∷ 0 ∷ 0 ∷ 0 ∷ 0 ∷ 0 ∷ 8 ∷ 85 ∷ 0 ∷ 85 ∷ 0 ∷ 0 ∷ 0 ∷ 0 ∷ 0 ∷ 85 ∷ 85 ∷ 10 ∷ 1 ∷ []
+fresh = 2 ∷ 76 ∷ 0 ∷ 0 ∷ 0 ∷ 0 ∷ 0 ∷ 8 ∷ 85 ∷ 0 ∷ 85 ∷ 0 ∷ 0 ∷ 0 ∷ 0 ∷ 0 ∷ 85 ∷ 85 ∷ 10 ∷ 1 ∷ []
 
 unfoldable pub other : List ℕ
-other = 1 ∷ 77 ∷ 0 ∷ 0 ∷ 0 ∷ 0 ∷ 0 ∷ 8 ∷ 85 ∷ 0 ∷ 85 ∷ 0 ∷ 0 ∷ 0 ∷ 0 ∷ 0 ∷ 85 ∷ 85 ∷ 10 ∷ 1 ∷ []
+other = 2 ∷ 77 ∷ 0 ∷ 0 ∷ 0 ∷ 0 ∷ 0 ∷ 8 ∷ 85 ∷ 0 ∷ 85 ∷ 0 ∷ 0 ∷ 0 ∷ 0 ∷ 0 ∷ 85 ∷ 85 ∷ 10 ∷ 1 ∷ []
 
 unfoldable pub busy : List ℕ
-busy = 1 ∷ 76 ∷ 0 ∷ 1 ∷ 0 ∷ 0 ∷ 0 ∷ 8 ∷ 85 ∷ 0 ∷ 85 ∷ 0 ∷ 0 ∷ 0 ∷ 0 ∷ 0 ∷ 85 ∷ 85 ∷ 10 ∷ 1 ∷ []
+busy = 2 ∷ 76 ∷ 0 ∷ 1 ∷ 0 ∷ 0 ∷ 0 ∷ 8 ∷ 85 ∷ 0 ∷ 85 ∷ 0 ∷ 0 ∷ 0 ∷ 0 ∷ 0 ∷ 85 ∷ 85 ∷ 10 ∷ 1 ∷ []
 
 unfoldable pub runs : List ℕ
-runs = 1 ∷ 76 ∷ 0 ∷ 0 ∷ 5 ∷ 0 ∷ 0 ∷ 8 ∷ 85 ∷ 0 ∷ 85 ∷ 0 ∷ 0 ∷ 0 ∷ 0 ∷ 0 ∷ 85 ∷ 85 ∷ 10 ∷ 1 ∷ []
+runs = 2 ∷ 76 ∷ 0 ∷ 0 ∷ 5 ∷ 0 ∷ 0 ∷ 8 ∷ 85 ∷ 0 ∷ 85 ∷ 0 ∷ 0 ∷ 0 ∷ 0 ∷ 0 ∷ 85 ∷ 85 ∷ 10 ∷ 1 ∷ []
+
+unfoldable pub earlier : List ℕ
+earlier = 1 ∷ 76 ∷ 0 ∷ 0 ∷ 0 ∷ 0 ∷ 0 ∷ 8 ∷ 85 ∷ 0 ∷ 85 ∷ 0 ∷ 0 ∷ 0 ∷ 0 ∷ 0 ∷ 85 ∷ 85 ∷ 10 ∷ 1 ∷ []
 
 -- so many bytes, with zeros behind those that are given
 abbrev filled : ℕ → List ℕ → List ℕ
@@ -142,6 +146,7 @@ feedRows =
     same (session (1 ∷ 1 ∷ 0 ∷ 6 ∷ []) (0 ∷ 0 ∷ 0 ∷ 0 ∷ 0 ∷ 0 ∷ 0 ∷ 0 ∷ 0 ∷ 0 ∷ 0 ∷ 0 ∷ []) (107 ∷ 105 ∷ 110 ∷ 100 ∷ 61 ∷ 49 ∷ []) fresh) (107 ∷ []) (pos 0) (replicate 32 7) 6 ∷
     same (session (1 ∷ 1 ∷ 1 ∷ 0 ∷ []) (0 ∷ 0 ∷ 0 ∷ 0 ∷ 0 ∷ 0 ∷ 0 ∷ 0 ∷ 0 ∷ 0 ∷ 0 ∷ 0 ∷ []) [] fresh) (107 ∷ []) (pos 0) (replicate 32 7) 6 ∷
     same (session (1 ∷ 0 ∷ 0 ∷ 0 ∷ []) (0 ∷ 0 ∷ 0 ∷ 0 ∷ 0 ∷ 0 ∷ 0 ∷ 0 ∷ 0 ∷ 0 ∷ 0 ∷ 0 ∷ []) [] runs) (107 ∷ []) (pos 0) (replicate 32 7) 6 ∷
+    same (session (1 ∷ 0 ∷ 0 ∷ 0 ∷ []) (0 ∷ 0 ∷ 0 ∷ 0 ∷ 0 ∷ 0 ∷ 0 ∷ 0 ∷ 0 ∷ 0 ∷ 0 ∷ 0 ∷ []) [] earlier) (107 ∷ []) (pos 0) (replicate 32 7) 6 ∷
     same (session (1 ∷ 0 ∷ 0 ∷ 0 ∷ []) (0 ∷ 0 ∷ 0 ∷ 0 ∷ 0 ∷ 0 ∷ 0 ∷ 0 ∷ 0 ∷ 0 ∷ 0 ∷ 0 ∷ []) [] (2 ∷ [])) (107 ∷ []) (pos 0) (replicate 32 7) 6 ∷
     -- another length of any; an end that is neither 0 nor 1
     record { session = replicate 255 0; portion = (107 ∷ []); end = pos 0; output = replicate 32 7; report = replicate 16 9; progress = replicate 8 9; wanted = record { code = 2; session = replicate 255 0; output = replicate 32 7; report = replicate 16 9; progress = replicate 8 9 } } ∷

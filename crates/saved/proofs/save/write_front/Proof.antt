@@ -1,4 +1,4 @@
--- `saved::save::write_front` meets its contract: the bytes that are copied are the front, which is 40 long. Assumes nothing.
+-- `saved::save::write_front` meets its contract: the bytes that are copied are the front, which is 42 long. Assumes nothing.
 use Prim.Native.Nat.{ℕ}
 use mathlib.Core.Path.{_≡_, _∙_}
 use mathlib.Core.List.{List, _++_}
@@ -10,7 +10,7 @@ use Rattle.saved_rules.specs.Layout.{frontOf}
 use Rattle.saved.proofs.save.write_front.Statement.{statement}
 use Rattle.saved.proofs.save.write_front.Tie as tie
 
-placed : (s : State) (src before after : List ℕ) → after ≡ take (length src) src ++ drop (length src) before → src ≡ frontOf s → after ≡ frontOf s ++ drop 40 before
+placed : (s : State) (src before after : List ℕ) → after ≡ take (length src) src ++ drop (length src) before → src ≡ frontOf s → after ≡ frontOf s ++ drop 42 before
 unfolding frontOf
 placed s src before after e f = e ∙ rw f
 
