@@ -18,7 +18,7 @@ struct i2c_client { uint8_t *chip; int addr; };
 /* ---- The driver ---- */
 
 enum { REMOTE = 0x01, STATUS = 0x02, CONFIG_READ = 0x03, CONFIG = 0x09, LOCAL_HIGH = 0x0b, REMOTE_HIGH = 0x0d, REMOTE_FINE = 0x10, MAKER = 0xfe };
-enum { STANDBY = 0x40, FAULTS = 0x7c, REMOTE_HIGH_FAULT = 0x10, OPEN_FAULT = 0x04, ALERT_RESPONSE = 0x0c };
+enum { STANDBY = 0x40, THERM2 = 0x20, FAULTS = 0x7c, REMOTE_HIGH_FAULT = 0x10, OPEN_FAULT = 0x04, ALERT_RESPONSE = 0x0c };
 
 static int adt_probe(struct i2c_client *client)
 {
@@ -53,6 +53,14 @@ static int adt_sleep(struct i2c_client *client)
     int config = i2c_smbus_read_byte_data(client, CONFIG_READ);
 
     return config < 0 ? config : i2c_smbus_write_byte_data(client, CONFIG, config | STANDBY);
+}
+
+/* Pin 6 to the fan, or back to ALERT. */
+static int adt_fan(struct i2c_client *client, int fan)
+{
+    int config = i2c_smbus_read_byte_data(client, CONFIG_READ);
+
+    return config < 0 ? config : i2c_smbus_write_byte_data(client, CONFIG, fan ? config | THERM2 : config & ~THERM2);
 }
 
 /* What the interrupt on ALERT calls: the faults. The status read clears those that are gone, and the alert response then lets ALERT go, if none
@@ -112,6 +120,19 @@ int main(void)
     check("the first status read shows the open diode once more", adt_remote_if(&client, adt_alert(&client)), -ENODATA);
     check("ALERT is high again", dlaveth_alert_line(chip), 1);
     check("the next one does not", adt_remote_if(&client, dlaveth_read_byte_data(chip, 76, STATUS) & FAULTS), 41000);
+
+    check("pin 6 goes to a fan", adt_fan(&client, 1), 0);
+    check("a conversion at 60.25", dlaveth_convert(chip, 20.0, 60.25), 0);
+    check("the fan runs", dlaveth_pin6_line(chip), 0);
+    check("nobody answers the alert response", adt_alert(&client), -ENXIO);
+    check("a conversion at 50.25", dlaveth_convert(chip, 20.0, 50.25), 0);
+    check("it runs on, down to 60 less the hysteresis of 10", dlaveth_pin6_line(chip), 0);
+    check("a conversion at 50", dlaveth_convert(chip, 20.0, 50.0), 0);
+    check("it stops", dlaveth_pin6_line(chip), 1);
+    check("pin 6 is ALERT again", adt_fan(&client, 0), 0);
+    check("and shows the alarm of the meantime", dlaveth_alert_line(chip), 0);
+    check("the handler sees the fault", adt_alert(&client), REMOTE_HIGH_FAULT);
+    check("ALERT is high again", dlaveth_alert_line(chip), 1);
 
     memcpy(chip, saved, sizeof chip);    /* back to 59.75, before the alarm */
     check("the chip sleeps", adt_sleep(&client), 0);

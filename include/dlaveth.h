@@ -22,7 +22,7 @@ enum {
     DLAVETH_BAD_KIND = 1,   /* answer: kind outside 0..7 */
     DLAVETH_BAD_FIELD = 2,  /* answer: a field out of its range, or an unused field not 0.
                                any call: bad address or length. feed: end neither 0 nor 1, or more than 16 MiB of trace in all */
-    DLAVETH_NO_ACK = 3,     /* answer: not the chip's address; alert response while ALERT is high */
+    DLAVETH_NO_ACK = 3,     /* answer: not the chip's address; alert response while ALERT is high, so always while pin 6 is THERM2 */
     DLAVETH_NO_START = 4,   /* answer: conversion start in standby, or while one runs */
     DLAVETH_NO_END = 5,     /* answer: conversion end while none runs */
     DLAVETH_BAD_STATE = 6,  /* answer: these bytes are no chip, or one whose state is not well formed. Never given in a replay, nor
@@ -48,7 +48,7 @@ enum {
 
 enum {
     DLAVETH_CHIP_BYTES = 128,       /* a chip */
-    DLAVETH_EVENT_ANSWER_BYTES = 8  /* an event's answer: code, reply, alert, therm, and four bytes that are 0 */
+    DLAVETH_EVENT_ANSWER_BYTES = 8  /* an event's answer: code, reply, alert (pin 6), therm, and four bytes that are 0 */
 };
 
 /*
@@ -73,8 +73,9 @@ int32_t dlaveth_power_on(int32_t address, uint8_t *chip, size_t chip_len);
  *             be written either way, so they must be writable, and not in use by another thread.
  * kind, a, b, c
  *             the event.
- * answer      answer_len bytes, which must be 8: code, reply byte, ALERT and THERM (1 means that the line is high), and four bytes that
- *             are 0. Written with a refusal too: the reply is then 0, and the lines are those of the chip as it was.
+ * answer      answer_len bytes, which must be 8: code, reply byte, alert and therm (1 means that the line is high), and four bytes that
+ *             are 0. alert is pin 6: ALERT, or THERM2 while configuration bit 5 is set. Written with a refusal too: the reply is then
+ *             0, and the lines are those of the chip as it was.
  *
  * Returns the answer's code, 0 to 6; or 2, with nothing written, where a length is wrong.
  *
@@ -102,7 +103,7 @@ enum {
  *             to 5 digits (a minus before it where negative; no plus, no leading zero, no -0, no space) and ended by byte 10.
  *             It is only read. kind, a, b and c are an event's, above; a number has 5 digits at most.
  * output      output_len bytes for the answers, one behind the other from the first byte. An answer is four lines, code=, reply=, alert= and
- *             therm=, each ended by byte 10; 1 means that the line is high. No byte behind the last answer is touched, and none after
+ *             therm=, each ended by byte 10; 1 means that the line is high, and alert is pin 6, as above. No byte behind the last answer is touched, and none after
  *             the text is written (no zero byte ends it): its length is in the report.
  * report      report_len bytes, which must be 16: code, records answered, trace bytes used, output bytes written, each a number of 4
  *             bytes, low byte first.

@@ -7,7 +7,7 @@
  *     int status = dlaveth_read_byte_data(chip, 76, 0x02);
  *
  * Each call on a chip takes its 128 bytes, and gives 0 or more, or a negative errno for a refusal:
- *   -ENXIO    nobody answers: not the chip's address; an alert response while ALERT is high
+ *   -ENXIO    nobody answers: not the chip's address; an alert response while ALERT is high, so always while pin 6 is THERM2
  *   -EINVAL   a number out of its range
  *   -EBUSY    no conversion can start or end now
  *   -EBADMSG  these bytes are no chip, or one whose state is not well formed
@@ -97,7 +97,9 @@ static inline int dlaveth_read_byte(uint8_t *chip, int address)
     return address == DLAVETH_ALERT_RESPONSE_ADDRESS ? dlaveth_alert_response(chip) : dlaveth_do(chip, 4, address, 0, 0);
 }
 
-/* ---- The two lines: 1 high, 0 low. An event of no kind is refused and changes nothing, and its answer has the lines. ---- */
+/* ---- The lines: 1 high, 0 low. All are asked of a copy, so nothing changes and nothing is logged. ---- */
+
+/* An event of no kind is refused, and its answer has the lines. */
 
 static inline int dlaveth_line(const uint8_t *chip, int place)
 {
@@ -107,9 +109,21 @@ static inline int dlaveth_line(const uint8_t *chip, int place)
     return dlaveth_event(copy, sizeof copy, -1, 0, 0, 0, answer, sizeof answer) == DLAVETH_BAD_STATE ? -EBADMSG : answer[place];
 }
 
-static inline int dlaveth_alert_line(const uint8_t *chip)
+/* Pin 6, in either role: ALERT, or THERM2 while configuration bit 5 is set. */
+static inline int dlaveth_pin6_line(const uint8_t *chip)
 {
     return dlaveth_line(chip, 2);
+}
+
+/* ALERT: low exactly where an alert response is answered, so high while pin 6 is THERM2. */
+static inline int dlaveth_alert_line(const uint8_t *chip)
+{
+    uint8_t copy[DLAVETH_CHIP_BYTES];
+    int reply;
+
+    memcpy(copy, chip, sizeof copy);
+    reply = dlaveth_try(copy, 5, 0, 0, 0);
+    return reply == -ENXIO ? 1 : reply < 0 ? reply : 0;
 }
 
 static inline int dlaveth_therm_line(const uint8_t *chip)

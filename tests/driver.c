@@ -117,6 +117,28 @@ int main(void)
     check("the local value", dlaveth_read_byte_data(chip, 76, 0x00), 24);
     check("the last good remote one", dlaveth_read_byte_data(chip, 76, 0x01), 20);
 
+    check("pin 6 is ALERT, which an open diode pulls", dlaveth_pin6_line(chip) * 2 + dlaveth_alert_line(chip), 0);
+    check("pin 6 as THERM2", dlaveth_write_byte_data(chip, 76, 0x09, 0x20), 0);
+    check("no mark is set: it is high", dlaveth_pin6_line(chip), 1);
+    check("and so is ALERT", dlaveth_alert_line(chip), 1);
+    check("no alert response is answered", dlaveth_alert_response(chip), -ENXIO);
+    check("a conversion at 86 degrees", dlaveth_convert(chip, 86.0, 20.0), 0);
+    memcpy(before, chip, sizeof chip);
+    events = 0;
+    check("pin 6 is low", dlaveth_pin6_line(chip), 0);
+    check("ALERT is not", dlaveth_alert_line(chip), 1);
+    check("asking for either changes nothing", memcmp(chip, before, sizeof chip), 0);
+    check("nor is it logged", events, 0);
+    check("masked too", dlaveth_write_byte_data(chip, 76, 0x09, 0xa0), 0);
+    check("pin 6 is low", dlaveth_pin6_line(chip), 0);
+    check("pin 6 as ALERT again", dlaveth_write_byte_data(chip, 76, 0x09, 0x00), 0);
+    check("both are low", dlaveth_pin6_line(chip) * 2 + dlaveth_alert_line(chip), 0);
+    check("masked", dlaveth_write_byte_data(chip, 76, 0x09, 0x80), 0);
+    check("both are high", dlaveth_pin6_line(chip) * 2 + dlaveth_alert_line(chip), 3);
+    check("bytes that are no chip have no pin", (chip[0] ^= 1, dlaveth_pin6_line(chip)), -EBADMSG);
+    check("and no ALERT", dlaveth_alert_line(chip), -EBADMSG);
+    chip[0] ^= 1;
+
     check("standby", dlaveth_write_byte_data(chip, 76, 0x09, 0x40), 0);
     memcpy(before, chip, sizeof chip);
     check("no conversion in standby", dlaveth_convert(chip, 20.0, 20.0), -EBUSY);

@@ -39,7 +39,7 @@ def parsed(path):
             value, sign = line.split() if line[0] in "br" else (line[0], line[1:])
             name = names[sign][0]
             number = value[1:] if line[0] in "br" else value
-            now[name] = None if number == "x" else float(number) if line[0] == "r" else int(number, 2)
+            now[name] = None if number in "xz" else float(number) if line[0] == "r" else int(number, 2)
     return {name: (sort, width) for name, sort, width in names.values()}, found, head
 
 
@@ -49,7 +49,7 @@ def answers(path):
 
 
 def answered(times):
-    return [(one["code"], one["reply"], one["ALERT"], one["THERM"]) for one in times[1:]]
+    return [(one["code"], one["reply"], one["pin_6"], one["THERM"]) for one in times[1:]]
 
 
 def set_flags(times):
@@ -64,6 +64,7 @@ def is_png(path):
 # Trace, address, and the flags at power-on and after each event.
 RECORDED = [
     ("k11", 76, ["", "busy", "remote_high", "remote_high", "remote_high", "remote_high busy", "remote_high", "", "", "", ""]),
+    ("pin6-kind5", 76, ["", "", "busy", *["remote_high"] * 3, "remote_high busy", *["remote_high"] * 2, *[""] * 5]),
     ("standby-high-limit", 76, ["", "busy", "", "", "local_high", "local_high", "local_high", "", "", ""]),
 ]
 
@@ -75,12 +76,12 @@ def standby(room):
     drawn = bool(shutil.which("gnuplot"))
     check("the standby case is done, and in a pipe nothing is said", differs(done, (0, "", "")) if drawn else differs(done[0], 3))
     signals, times, head = parsed(room / "standby.vcd")
-    wanted = {name: ("wire", 1) for name in ["ALERT", "THERM", *FLAGS, "busy"]} | {name: ("real", 64) for name in [*DEGREES, "hysteresis"]}
+    wanted = {name: ("wire", 1) for name in ["pin_6", "ALERT", "THERM2", "THERM", *FLAGS, "busy"]} | {name: ("real", 64) for name in [*DEGREES, "hysteresis"]}
     check("its signals", differs(signals, wanted | {"code": ("wire", 8), "reply": ("wire", 8)}))
     check("its head says what it is", [part for part in ("$comment", "standby.trace", "$timescale 1 ns $end", "One unit of time is one event")
                                        if part not in head])
     check("its answers", differs(answered(times), [(0, 0, 1, 1), (0, 0, 1, 1), (0, 0, 1, 1), (0, 0, 0, 1), (0, 16, 0, 1)]))
-    check("power-on answers nothing, and both lines are high", differs([times[0][name] for name in ("code", "reply", "ALERT", "THERM")], [None, None, 1, 1]))
+    check("power-on answers nothing, pin 6 is ALERT, and both lines are high", differs([times[0][name] for name in ("code", "reply", "pin_6", "ALERT", "THERM2", "THERM")], [None, None, 1, 1, None, 1]))
     check("its flags", differs(set_flags(times), ["", "busy", "", "", "remote_high", "remote_high"]))
     check("its degrees", differs([(one["local_value"], one["remote_value"], one["remote_high_limit"]) for one in times],
                                  [(0, 0, 85), (0, 0, 85), (20, 50, 85), (20, 50, 85), (20, 50, 40), (20, 50, 40)]))
@@ -125,6 +126,10 @@ def by_hand(room):
     times = notation(room, "convert -5 -5.0\nconvert -5 -5.0 open\nconvert 100 100.0\nstatus\nconvert 20 20.0\nstatus")
     check("all five flags", differs(set_flags(times), ["", "busy", "local_low remote_low", "local_low remote_low busy", "local_low remote_low open", "local_low remote_low open busy", " ".join(FLAGS),
                                                        "local_high remote_high", "local_high remote_high busy", "local_high remote_high", ""]))
+    # 341 is over the high limit: ALERT, then the mark; at 300 the mark is released, and the latch shows again at bit 5 back to 0.
+    times = notation(room, "convert 20 85.25\nwrite configuration 0x20\nconvert 20 75.0\nwrite configuration 0\nwrite configuration 0xa0\nreset")
+    check("pin 6 has its role's name, and the other is z", differs([(one["pin_6"], one["ALERT"], one["THERM2"]) for one in times],
+                                                                    [(1, 1, None), (1, 1, None), (0, 0, None), (0, None, 0), (0, None, 0), (1, None, 1), (0, 0, None), (1, None, 1), (1, 1, None)]))
     check("an empty trace has the power-on state", differs(len(notation(room, "")), 1))
 
 
@@ -233,6 +238,12 @@ def drawn(room):
     blocks, _ = told(room, "convert 20 85.25")
     spans = {(int(row[1]), float(row[2]), float(row[3])) for row in blocks["bars"]}
     check("bars that hold at the end", differs(spans, {(0, 2, 3), (-1, 2, 3), (-4, 2, 3), (-7, 1, 2)}))
+    check("no row for THERM2 where pin 6 is never so", ["it is there"] if "THERM2" in script else [])
+    blocks, script = told(room, "convert 20 85.25\nwrite configuration 0x20\nconvert 20 75.0\nwrite configuration 0\n")
+    # ALERT from 2 to 3 and at 6; THERM2 from 3 to 5, its role from 3 to 6; THERM from 2 to 5, as 75 is 85 - 10.
+    spans = {(int(row[1]), float(row[2]), float(row[3])) for row in blocks["bars"]}
+    check("pin 6 has a row for each role", differs(spans, {(0, 2, 3), (0, 6, 7), (-1, 3, 5), (-2, 3, 6), (-3, 2, 5), (-6, 2, 7), (-9, 1, 2), (-9, 4, 5)}))
+    check("and their names", [text for text in ("'ALERT low' 0, 'THERM2 low' -1, 'pin 6 is THERM2' -2, 'THERM low' -3", "title 'role of pin 6'") if text not in script])
     blocks, script = told(room, "status\n" * 41)
     check("a longer trace has numbers", differs(("read status" in script, "set xlabel 'event'" in script, len(blocks["marks"])), (False, True, 41)))
 

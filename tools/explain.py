@@ -9,7 +9,10 @@ from output import say
 from table import USUAL_ADDRESS, Table
 
 TABLE = Table()
-RESET = 0              # the kind that puts the pointer back to command 0
+RESET = 0              # the kind that puts the pointer back to command 0, and configuration bits to 0
+PIN = TABLE.lines["answer"][2]               # pin 6, the first of the chip's lines, which has two roles
+ROLE = TABLE.roles[PIN]                      # the register and its bit that give it the other one
+THERM2 = TABLE.bits[ROLE[0]][ROLE[1]]        # its name then
 LEVELS = ["low", "high"]
 NUMBER = "(0|-?[1-9][0-9]{0,4})"
 
@@ -131,9 +134,15 @@ def reply_of(code, reply, replies, register):
     return said + (f", reply {reply}" if reply else "")    # document 01 has 0 here
 
 
+def lines_said(levels, therm2):
+    """The lines of the chip in words: pin 6 has the name of its role."""
+    names = [THERM2 if therm2 and name == PIN else name.upper() for name in TABLE.lines["answer"][2:]]
+    return ", ".join(f"{name} {LEVELS[level]}" for name, level in zip(names, levels))
+
+
 def explained(records, answers):
-    """A line for each answer. The pointer is followed, so that a reply without a command has its register's name."""
-    found, pointer, width = [], 0, len(str(len(answers)))
+    """A line for each answer. The pointer is followed, so that a reply without a command has its register's name; so is the role of pin 6."""
+    found, pointer, therm2, width = [], 0, 0, len(str(len(answers)))
     for place, (record, (code, reply, *levels)) in enumerate(zip(records, answers), 1):
         replies, register = "none", None
         if is_event(record):
@@ -143,14 +152,17 @@ def explained(records, answers):
             commands = [n for f, n in zip(kind.fields, record[1:]) if f.form in TABLE.registers]
             if code == 0:
                 pointer = 0 if kind.number == RESET else (commands or [pointer])[0]
+                if kind.number == RESET:
+                    therm2 = 0
+                elif "byte" in [field.form for field in kind.fields] and TABLE.registers[kind.fields[1].form].get(pointer) == ROLE[0]:
+                    therm2 = record[3] >> ROLE[1] & 1
                 if replies in TABLE.registers:
                     text, register = register_of(replies, pointer)
                     told += "" if commands else f" [{text}]"
         else:
             told = " ".join(f"{name}={number}" for name, number in zip(TABLE.lines["record"], record))
         said = reply_of(code, reply, replies, register)
-        lines = ", ".join(f"{name.upper()} {LEVELS[level]}" for name, level in zip(TABLE.lines["answer"][2:], levels))
-        found.append(f"{place:>{width}}  {told} -> {said}; {lines}\n")
+        found.append(f"{place:>{width}}  {told} -> {said}; {lines_said(levels, therm2)}\n")
     return found
 
 

@@ -18,6 +18,7 @@ class Table:
         self.codes, self.stops = {}, {}
         self.registers = {}    # sort: {command: name}
         self.bits = {}         # register's name: {bit: name}
+        self.roles = {}        # line of the chip: register's name, bit
         for place, line in enumerate(path.read_text().split("\n"), 1):
             words = line.partition("#")[0].split()
             try:
@@ -53,6 +54,12 @@ class Table:
             put(self.registers.setdefault(first, {}), int(command, 0), name)
         elif sort == "bit":
             put(self.bits.setdefault(first, {}), int(rest[0], 0), " ".join(rest[1:]))
+        elif sort == "role":
+            register, number = rest
+            if first not in self.lines["answer"][2:]:
+                raise ValueError(f"no line: {first}")
+            self.bits[register][int(number, 0)]    # it has a name
+            put(self.roles, first, (register, int(number, 0)))
         else:
             raise ValueError(f"no such sort: {sort}")
 

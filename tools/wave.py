@@ -38,6 +38,7 @@ SHIFT = 64           # degrees by which the extended range is shifted
 MOST = 2000          # records; each event replays all before it
 WORDY = 40           # up to so many events the picture has each in words
 LONGEST = 42         # characters of an event in words
+PIN, THERM2 = "pin 6", explain.THERM2
 MARKS = ["conversion ended", "ended, diode open", "limit write", "configuration write", "status read", "alert response", "power-on reset"]
 
 # After an event: its answer, then registers and degrees by command.
@@ -46,6 +47,11 @@ Shown = namedtuple("Shown", "code reply alert therm registers degrees")
 
 class Failed(Exception):
     """Why there are no waves."""
+
+
+def as_therm2(one):
+    """Whether pin 6 is THERM2."""
+    return one.registers[CONFIGURATION] >> explain.ROLE[1] & 1
 
 
 # ---- asking the library
@@ -91,6 +97,9 @@ def signals():
     def line(name):
         return lambda shown: str(getattr(shown, name))
 
+    def pin_as(role):
+        return lambda shown: str(shown.alert) if as_therm2(shown) == role else "z"
+
     def byte(name):
         return lambda shown: "b%s " % format(getattr(shown, name), "08b")
 
@@ -98,7 +107,7 @@ def signals():
         return lambda shown: f"r{shown.degrees[command]:.16g} "
 
     *numbers, alert, therm = TABLE.lines["answer"]
-    found = [("wire", 1, name.upper(), line(name)) for name in (alert, therm)]
+    found = [("wire", 1, PIN, line(alert)), ("wire", 1, alert.upper(), pin_as(0)), ("wire", 1, THERM2, pin_as(1)), ("wire", 1, therm.upper(), line(therm))]
     found += [("wire", 1, FLAGS[number], bit(number)) for number in [*LATCHED, BUSY]]
     found += [("real", 64, REGISTERS[command], degrees(command)) for command in DEGREES]
     found += [("real", 64, REGISTERS[HYSTERESIS], lambda shown: f"r{shown.registers[HYSTERESIS]} ")]
@@ -109,7 +118,8 @@ def vcd(shown, named):
     named = named.replace("$", "?")    # $end in a name would end the comment
     found = ["$comment", f"  A run of the ADT7461 model, from {named}: what the library answers and shows.",
              "  One unit of time is one event: at n stands what holds after event n, at 0 the power-on state. No duration is meant.",
-             "  ALERT and THERM: 1 is high. Degrees are the registers read in the range that the configuration has then.",
+             "  Lines: 1 is high. Pin 6 is ALERT, or THERM2 while configuration bit 5 is set; the one that it is not is z.",
+             "  Degrees are the registers read in the range that the configuration has then.",
              "$end", "$timescale 1 ns $end", "$scope module adt7461 $end"]
     listed = [(chr(ord("A") + at), *signal) for at, signal in enumerate(signals())]
     for sign, sort, width, name, _ in listed:
@@ -217,7 +227,13 @@ def picture(records, shown, named):
         if away[at] and before:
             row[REMOTE] = "NaN"
         rows.append((time, *row.values(), kept))
-    bars = [(f"{name.upper()} low", [not getattr(one, name) for one in shown], 2) for name in TABLE.lines["answer"][2:]]
+    # Pin 6 by its role; what stands for THERM2 is left out where no event has it so.
+    alert, therm = TABLE.lines["answer"][2:]
+    roles = [as_therm2(one) for one in shown]
+    bars = [(f"{alert.upper()} low", [not one.alert and not role for one, role in zip(shown, roles)], 2)]
+    if any(roles):
+        bars += [(f"{THERM2} low", [not one.alert and role for one, role in zip(shown, roles)], 2), (f"{PIN} is {THERM2}", roles, 3)]
+    bars += [(f"{therm.upper()} low", [not one.therm for one in shown], 2)]
     bars += [(FLAGS[bit], [one.registers[STATUS] >> bit & 1 for one in shown], 0 if bit == BUSY else 1) for bit in [*LATCHED, BUSY]]
     boxes = [(f"{(low + high) / 2} {-row} {low} {high} {-row - 0.36} {-row + 0.36}", colour)
              for row, (_, held, colour) in enumerate(bars) for low, high in spans(held)]
@@ -252,7 +268,7 @@ def picture(records, shown, named):
                      "plot " + ", ".join(f"$degrees using 1:{place} with steps {style} title {quoted(name)}" for place, style, name in lines)]
         elif at == len(CHANNELS):
             tics = ", ".join(f"{quoted(name)} {-row}" for row, (name, _, _) in enumerate(bars))
-            sorts = [(2, "#c02020", "line low"), (1, "#e08000", "flag set"), (0, "#8090a0", FLAGS[BUSY])]
+            sorts = [(2, "#c02020", "line low"), (1, "#e08000", "flag set"), (0, "#8090a0", FLAGS[BUSY])] + [(3, "#60a080", f"role of {PIN}")] * any(roles)
             told += ["unset ylabel", f"set yrange [{-len(bars) + 0.5}:0.5]", f"set ytics ({tics})",
                      "plot " + ", ".join(f"$bars using ($7 == {sort} ? $1 : NaN):2:3:4:5:6 with boxxyerror fc rgb '{colour}' title '{name}'"
                                          for sort, colour, name in sorts)]
