@@ -32,7 +32,8 @@ pub struct Limits {
     pub hysteresis: u16,
 }
 
-// The pointer stands last: beside the address the compiler would carry both as one number and take it apart at every event.
+// The pointer stands last: beside the address the compiler would carry both as one number and take it apart at every event. The THERM2
+// marks stand before it, beside each other, since every answer asks for both.
 pub struct State {
     pub address: u8,
     pub config: u8,
@@ -54,7 +55,6 @@ pub struct State {
     pub localdiodefound: bool,
     pub localdiodeflag: bool,
     pub localthermflag: bool,
-    pub localtherm2mark: bool,
     pub remotehigh: u8,
     pub remotehighfine: u8,
     pub remotelow: u8,
@@ -71,6 +71,7 @@ pub struct State {
     pub remotediodefound: bool,
     pub remotediodeflag: bool,
     pub remotethermflag: bool,
+    pub localtherm2mark: bool,
     pub remotetherm2mark: bool,
     pub pointer: u8,
 }
