@@ -48,6 +48,7 @@ enum {
 
 enum {
     DLAVETH_CHIP_BYTES = 128,       /* a chip */
+    DLAVETH_CHIP_LAYOUT = 2,        /* the number of its layout, which its first byte has; bytes of another are no chip */
     DLAVETH_EVENT_ANSWER_BYTES = 8  /* an event's answer: code, reply, alert (pin 6), therm, and four bytes that are 0 */
 };
 
@@ -103,8 +104,8 @@ enum {
  *             to 5 digits (a minus before it where negative; no plus, no leading zero, no -0, no space) and ended by byte 10.
  *             It is only read. kind, a, b and c are an event's, above; a number has 5 digits at most.
  * output      output_len bytes for the answers, one behind the other from the first byte. An answer is four lines, code=, reply=, alert= and
- *             therm=, each ended by byte 10; 1 means that the line is high, and alert is pin 6, as above. No byte behind the last answer is touched, and none after
- *             the text is written (no zero byte ends it): its length is in the report.
+ *             therm=, each ended by byte 10; 1 means that the line is high, and alert is pin 6, as above. No byte behind the last answer
+ *             is touched, and none after the text is written (no zero byte ends it): its length is in the report.
  * report      report_len bytes, which must be 16: code, records answered, trace bytes used, output bytes written, each a number of 4
  *             bytes, low byte first.
  *

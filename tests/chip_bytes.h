@@ -8,7 +8,7 @@
 #include <stdbool.h>
 
 /* The layout's number and a channel's length; where the registers and the channels begin, and where the bytes without a meaning do. */
-enum { CHIP_LAYOUT = 2, CHIP_CHANNEL = 11, CHIP_REGISTERS_AT = 6, CHIP_LOCAL_AT = 20, CHIP_REMOTE_AT = 31, CHIP_MEANING = 42 };
+enum { CHIP_LAYOUT = DLAVETH_CHIP_LAYOUT, CHIP_CHANNEL = 11, CHIP_REGISTERS_AT = 6, CHIP_LOCAL_AT = 20, CHIP_REMOTE_AT = 31, CHIP_MEANING = 42 };
 
 void chip_encode(const second_chip *c, uint8_t bytes[DLAVETH_CHIP_BYTES]);
 

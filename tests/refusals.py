@@ -2,7 +2,7 @@
 
 # Refusals that say only that the proof no longer fits the code's form. A rewrite that finds nothing ("`rw`: no occurrence of the path's
 # left endpoint") is none of them: the form fits, and a test or call now says something else than the rule.
-UNFIT = ["has no `Need-", "is not in scope", "has no field", "Parse error", "no such module"]
+UNFIT = ["has no `Need-", "is not in scope", "has no field", "missing field(s)", "Parse error", "no such module"]
 
 
 def errors_of(log):

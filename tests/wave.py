@@ -205,21 +205,22 @@ def told(room, text):
 
 
 # Rows of the picture, from the top; a row's place is its number below 0.
-ENDED, OPENED, LIMIT, CONFIGURATION, STATUS, RESPONSE, RESET = range(0, -7, -1)
+ENDED, OPENED, LIMIT, CONFIGURATION, STATUS, RESPONSE, RESET, REFUSED = range(0, -8, -1)
 
 
 def drawn(room):
-    # A read of another register, a refused event, a write that is no limit and a start have no mark; a receive has one where the status is read.
+    # A read of another register, a write that is no limit and a start have no mark; a receive has one where the status is read.
     text = ("convert 20 85.25\nstatus\nreceive\nread configuration\nreceive\nrespond\nwrite configuration 0x40\nwrite remote-high-limit 90\n"
             "write hysteresis 9\nwrite offset 0\nstart\nend 1 1\nsend status\nreceive\nrespond\nrespond\nreset\nreceive\n")
     blocks, script = told(room, text)
     check("the marks", differs([(int(time), int(row)) for time, row in blocks["marks"]],
-                               [(2, ENDED), (3, STATUS), (4, STATUS), (7, RESPONSE), (8, CONFIGURATION), (9, LIMIT), (10, LIMIT), (15, STATUS),
-                                (16, RESPONSE), (18, RESET)]))
+                               [(2, ENDED), (3, STATUS), (4, STATUS), (7, RESPONSE), (8, CONFIGURATION), (9, LIMIT), (10, LIMIT), (12, REFUSED), (13, REFUSED),
+                                (15, STATUS), (16, RESPONSE), (17, REFUSED), (18, RESET)]))
     # Remote high from event 2 until the status read at 15, ALERT until the response at 16; THERM until the reset, as 85.25 is over 85 - 9.
     spans = {(int(row[1]), float(row[2]), float(row[3])) for row in blocks["bars"]}
     check("the bars", differs(spans, {(0, 2, 16), (-1, 2, 18), (-4, 2, 15), (-7, 1, 2)}))
-    check("a value is drawn from the first conversion to the reset", differs([row[1] for row in blocks["degrees"]], ["NaN"] * 2 + ["85.25"] * 16 + ["NaN"] * 3))
+    check("a value is drawn from the first conversion to the reset", differs([(row[0], row[1]) for row in blocks["degrees"]],
+                                                                             [(str(n), "85.25" if 2 <= n <= 18 else "NaN") for n in range(19)] + [(str(n), "NaN") for n in (18, 19, 20)]))
     names = [*"ALERT THERM".split(), "local high", "local low", "remote high", "remote low", "open", "busy"]
     rows = [f"'{name}{' low' if name.isupper() else ''}' {-row}" for row, name in enumerate(names)]
     words = ["'9 write remote-high-limit 90 = 0x5a' 9", "'12 code 4: start' 12", "'power-on' 0"]
@@ -228,11 +229,14 @@ def drawn(room):
     check("no line of a kept value where none is", ["it is there"] if "kept" in script else [])
     blocks, script = told(room, "convert 21 50.0 open\nconvert 22 51.0\nconvert 23 52.0 open\nstart\nend 24 53.0\nreset\nconvert 25 54.0\nconvert 26 55.0 open\n")
     check("an open diode draws the local value, and apart the remote one as it was", differs([" ".join(row[at] for row in blocks["degrees"]) for at in (1, 5, 9)], [
-        "NaN NaN NaN NaN 51 51 51 NaN 53 NaN NaN 54 54 54 NaN",
-        "NaN NaN 21 21 22 22 23 23 24 NaN NaN 25 25 26 26",
-        "NaN NaN NaN NaN 51 NaN 51 51 53 NaN NaN NaN NaN 54 54",
+        "NaN NaN NaN NaN 51 51 51 NaN 53 53 NaN NaN 54 54 54 NaN",
+        "NaN NaN 21 21 22 22 23 23 24 24 NaN NaN 25 25 26 26",
+        "NaN NaN NaN NaN 51 NaN 51 51 53 NaN NaN NaN NaN NaN 54 54",
     ]))
     check("and has a name for it", [] if "title 'kept, diode open'" in script else ["it has none"])
+    cut, _ = told(room, "convert 20 50.0\nconvert 21 51.0 open\nreset\n")
+    check("a kept value goes on to a reset", differs([(row[0], row[1], row[9]) for row in cut["degrees"]],
+                                                    [("0", "NaN", "NaN"), ("1", "NaN", "NaN"), ("2", "50", "NaN"), ("3", "50", "NaN"), ("4", "50", "50"), ("5", "NaN", "50"), ("5", "NaN", "NaN"), ("6", "NaN", "NaN")]))
     check("a conversion that an open diode ended has a mark of its own", differs([(int(time), int(row)) for time, row in blocks["marks"]],
                                                                                  [(2, OPENED), (4, ENDED), (6, OPENED), (8, ENDED), (9, RESET), (11, ENDED), (13, OPENED)]))
     blocks, _ = told(room, "convert 20 85.25")
@@ -243,6 +247,10 @@ def drawn(room):
     # ALERT from 2 to 3 and at 6; THERM2 from 3 to 5, its role from 3 to 6; THERM from 2 to 5, as 75 is 85 - 10.
     spans = {(int(row[1]), float(row[2]), float(row[3])) for row in blocks["bars"]}
     check("pin 6 has a row for each role", differs(spans, {(0, 2, 3), (0, 6, 7), (-1, 3, 5), (-2, 3, 6), (-3, 2, 5), (-6, 2, 7), (-9, 1, 2), (-9, 4, 5)}))
+    # 75 is 85 - 10; of the extended range with a hysteresis over the limit, code 0.
+    check("where THERM2 is released", differs([(row[10], row[11]) for row in blocks["degrees"]], [("75", "75")] * 8) or ([] if "title 'THERM2 released at'" in script else ["it has no name"]))
+    low, _ = told(room, "write configuration 0x24\nwrite hysteresis 90\nwrite remote-high-limit 91\n")
+    check("not under code 0", differs([(row[10], row[11]) for row in low["degrees"]], [("75", "75"), ("11", "11"), ("-64", "-64"), ("-63", "-64"), ("-63", "-64")]))
     check("and their names", [text for text in ("'ALERT low' 0, 'THERM2 low' -1, 'pin 6 is THERM2' -2, 'THERM low' -3", "title 'role of pin 6'") if text not in script])
     blocks, script = told(room, "status\n" * 41)
     check("a longer trace has numbers", differs(("read status" in script, "set xlabel 'event'" in script, len(blocks["marks"])), (False, True, 41)))

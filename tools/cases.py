@@ -81,7 +81,7 @@ def show():
         wrong += have != want
         print(text + mark)
     wrong += max(0, len(got) - len(wanted))
-    print(f"{len(wanted)} lines, {wrong} not as document 01 has them")
+    print(f"{len(wanted)} lines, {wrong} not as the documents have them")
     sys.exit(1 if wrong else 0)
 
 

@@ -28,6 +28,7 @@ LOCAL, REMOTE, STATUS, CONFIGURATION, HYSTERESIS = 0x00, 0x01, 0x02, 0x03, 0x21
 CHANNELS = [{0x01: 0x10, 0x07: 0x13, 0x08: 0x14, 0x19: None}, {0x00: None, 0x05: None, 0x06: None, 0x20: None}]
 DEGREES = CHANNELS[0] | CHANNELS[1]
 VALUES = [next(iter(channel)) for channel in CHANNELS]
+HIGH = [list(channel)[1] for channel in CHANNELS]
 ASKED = [STATUS, CONFIGURATION, HYSTERESIS, *DEGREES, *filter(None, DEGREES.values())]
 TO_CONFIGURATION = 0x09
 TO_LIMITS = [0x0B, 0x0C, 0x0D, 0x0E, 0x13, 0x14, 0x19, 0x20, 0x21]    # the writes that compare in standby
@@ -39,7 +40,7 @@ MOST = 2000          # records; each event replays all before it
 WORDY = 40           # up to so many events the picture has each in words
 LONGEST = 42         # characters of an event in words
 PIN, THERM2 = "pin 6", explain.THERM2
-MARKS = ["conversion ended", "ended, diode open", "limit write", "configuration write", "status read", "alert response", "power-on reset"]
+MARKS = ["conversion ended", "ended, diode open", "limit write", "configuration write", "status read", "alert response", "power-on reset", "refused"]
 
 # After an event: its answer, then registers and degrees by command.
 Shown = namedtuple("Shown", "code reply alert therm registers degrees")
@@ -143,10 +144,11 @@ def vcd(shown, named):
 
 
 def marks_of(records, shown):
-    """Event and mark of those that were done and touch what is shown. The pointer is followed, for a receive may read the status."""
+    """Event and mark of those that touch what is shown, and of those that were refused. The pointer is followed, for a receive may read the status."""
     found, pointer = [], 0
     for time, (record, one) in enumerate(zip(records, shown[1:]), 1):
         if one.code:
+            found.append((time, "refused"))
             continue
         kind = TABLE.kinds[record[0]]
         commands = [number for field, number in zip(kind.fields, record[1:]) if field.form in TABLE.registers]
@@ -194,13 +196,17 @@ def words_of(record, code):
     return f"code {code}: {text}" if code else text
 
 
+def shortened(text):
+    return text if len(text) <= LONGEST else text[:LONGEST - 2] + ".."
+
+
 def picture(records, shown, named):
     """What gnuplot is told."""
     count = len(records)
     wordy = count <= WORDY
     marks = marks_of(records, shown)
     width, foot = 1200, 260 if wordy else 60
-    panels = [230, 230, 190, 150]
+    panels = [230, 230, 190, 170]
     gap, head = 22, 50
     height = head + sum(panels) + gap * (len(panels) - 1) + foot
     # The values that some conversion stored, and whether an open diode held the remote one back in the latest.
@@ -215,18 +221,26 @@ def picture(records, shown, named):
         measured.append(had)
         away.append(held)
 
-    rows = []
-    for time in range(count + 2):
-        at = min(time, count)    # the last event's state goes on for one unit
+    def row_of(time, at, before):
+        """What is drawn at a time of the state after event `at`; before is whether the remote value was held back until then."""
         one = shown[at]
         # Before a channel's first conversion its value register has 0, which nobody measured.
         row = {command: "NaN" if command in VALUES and command not in measured[at] else f"{one.degrees[command]:g}" for command in DEGREES}
         # A remote value that was kept has a line of its own, up to the event that stores another; the other goes on to where it begins.
-        before = away[at - 1] if 0 < time <= count else away[at]
         kept = row[REMOTE] if away[at] or before else "NaN"
         if away[at] and before:
             row[REMOTE] = "NaN"
-        rows.append((time, *row.values(), kept))
+        # Where THERM2 lets go: the high limit less the hysteresis, not under code 0.
+        least = -SHIFT * (one.registers[CONFIGURATION] >> EXTENDED & 1)
+        release = [f"{max(one.degrees[high] - one.registers[HYSTERESIS], least):g}" for high in HIGH]
+        return (time, *row.values(), kept, *release)
+
+    rows = []
+    for time in range(count + 2):
+        at = min(time, count)    # the last event's state goes on for one unit
+        if 0 < time <= count and measured[at - 1] and not measured[at]:
+            rows.append(row_of(time, at - 1, away[at - 1]))    # a reset: what was stored goes on to it
+        rows.append(row_of(time, at, away[at - 1] if 0 < time <= count else away[at]))
     # Pin 6 by its role; what stands for THERM2 is left out where no event has it so.
     alert, therm = TABLE.lines["answer"][2:]
     roles = [as_therm2(one) for one in shown]
@@ -260,10 +274,13 @@ def picture(records, shown, named):
             column = {command: place for place, command in enumerate(DEGREES, 2)}
             numbers = [float(row[column[command] - 1]) for row in rows for command in CHANNELS[at] if row[column[command] - 1] != "NaN"]
             lines = [(column[command], style, REGISTERS[command]) for command, style in drawn]
-            kept = [float(row[-1]) for row in rows if row[-1] != "NaN"]
+            kept = [float(row[len(DEGREES) + 1]) for row in rows if row[len(DEGREES) + 1] != "NaN"]
             if value == REMOTE and kept:
                 lines.append((len(DEGREES) + 2, "lc rgb '#808080' lw 2.5 dt 3", "kept, diode open"))
                 numbers += kept
+            if any(roles):
+                lines.append((len(DEGREES) + 3 + at, "lc rgb '#c02020' lw 1 dt 3", f"{THERM2} released at"))
+                numbers += [float(row[len(DEGREES) + 2 + at]) for row in rows]
             told += [f"set yrange [{min(numbers) - 8}:{max(numbers) + 8}]", f"set ylabel '{REGISTERS[value].split('-')[0]}, °C' offset screen -0.02,0",
                      "plot " + ", ".join(f"$degrees using 1:{place} with steps {style} title {quoted(name)}" for place, style, name in lines)]
         elif at == len(CHANNELS):
@@ -275,7 +292,7 @@ def picture(records, shown, named):
         else:
             tics = ", ".join(f"{quoted(name)} {-row}" for row, name in enumerate(MARKS))
             if wordy:
-                words = [f"{time} {words_of(record, shown[time].code)}"[:LONGEST] for time, record in enumerate(records, 1)]
+                words = [shortened(f"{time} {words_of(record, shown[time].code)}") for time, record in enumerate(records, 1)]
                 named_tics = ["'power-on' 0", *(f"{quoted(text)} {time}" for time, text in enumerate(words, 1))]
                 told += [f"set xtics rotate by {-35 if count <= 20 else -60} left ({', '.join(named_tics)})"]
             else:
