@@ -1038,6 +1038,89 @@ static void test_therm2_line(void)
             }
 }
 
+/* "Codes 1 to 6 give reply byte 0 and the state as it came; alert and therm are read from that
+   state": pin 6 by its role, whatever the refusal, and for code 6 whatever the state's fault */
+static void test_refused_lines(void)
+{
+    static const struct { uint8_t configuration, latch, marks; int line; } pin[] = {
+        /* THERM2: the marks alone, neither the latch nor bit 7 */
+        { 0x20, 0, 0, 1 }, { 0x20, 1, 0, 1 }, { 0xA0, 0, 0, 1 }, { 0xA0, 1, 0, 1 },
+        { 0x20, 0, 1, 0 }, { 0x20, 1, 1, 0 }, { 0xA0, 0, 1, 0 }, { 0xA0, 1, 1, 0 },
+        { 0x20, 0, 2, 0 }, { 0x20, 1, 2, 0 }, { 0xA0, 0, 2, 0 }, { 0xA0, 1, 2, 0 },
+        { 0x20, 0, 3, 0 }, { 0x20, 1, 3, 0 }, { 0xA0, 0, 3, 0 }, { 0xA0, 1, 3, 0 },
+        /* ALERT: the latch and bit 7, not the marks */
+        { 0x00, 0, 0, 1 }, { 0x00, 1, 0, 0 }, { 0x80, 0, 0, 1 }, { 0x80, 1, 0, 1 },
+        { 0x00, 0, 1, 1 }, { 0x00, 1, 1, 0 }, { 0x80, 0, 1, 1 }, { 0x80, 1, 1, 1 },
+        { 0x00, 0, 2, 1 }, { 0x00, 1, 2, 0 }, { 0x80, 0, 2, 1 }, { 0x80, 1, 2, 1 },
+        { 0x00, 0, 3, 1 }, { 0x00, 1, 3, 0 }, { 0x80, 0, 3, 1 }, { 0x80, 1, 3, 1 },
+    };
+    static const struct { uint8_t status; int line; } therm_pin[] = {
+        { 0x00, 1 }, { 0x7C, 1 }, { 0x01, 0 }, { 0x02, 0 } };
+
+    for (size_t i = 0; i < sizeof pin / sizeof *pin; i++)
+        for (size_t j = 0; j < sizeof therm_pin / sizeof *therm_pin; j++) {
+            int alert = pin[i].line, therm = therm_pin[j].line;
+            second_chip good = fresh();
+            good.reg[0x02] = therm_pin[j].status;
+            good.reg[0x03] = pin[i].configuration;
+            good.alert_latch = pin[i].latch;
+            good.therm2 = pin[i].marks;
+            second_chip chip = good;
+
+            /* 1 and 2 */
+            STEP(&chip, 8, 0, 0, 0, 1, 0, alert, therm);
+            STEP(&chip, -1, 0, 0, 0, 1, 0, alert, therm);
+            STEP(&chip, 0, 1, 0, 0, 2, 0, alert, therm);
+            STEP(&chip, 1, 128, 0, 0, 2, 0, alert, therm);
+            STEP(&chip, 2, 76, 0x09, 256, 2, 0, alert, therm);
+            STEP(&chip, 3, 76, -1, 0, 2, 0, alert, therm);
+            STEP(&chip, 4, 76, 1, 0, 2, 0, alert, therm);
+            STEP(&chip, 5, 12, 0, 0, 2, 0, alert, therm);
+            STEP(&chip, 6, 0, 0, 1, 2, 0, alert, therm);
+            STEP(&chip, 7, 20, 32768, 0, 2, 0, alert, therm);
+            /* 3: another address; kind 5 unless ALERT is low, which in the ALERT role pin 6 is */
+            STEP(&chip, 1, 77, 0x02, 0, 3, 0, alert, therm);
+            STEP(&chip, 2, 77, 0x09, 0, 3, 0, alert, therm);
+            STEP(&chip, 3, 77, 0x02, 0, 3, 0, alert, therm);
+            STEP(&chip, 4, 77, 0, 0, 3, 0, alert, therm);
+            if (pin[i].configuration != 0x00 || pin[i].latch == 0)
+                STEP(&chip, 5, 0, 0, 0, 3, 0, alert, therm);
+            /* 5; then 4: while a conversion runs, in standby, both */
+            STEP(&chip, 7, 20, 200, 0, 5, 0, alert, therm);
+            chip.reg[0x02] |= 0x80;
+            STEP(&chip, 6, 0, 0, 0, 4, 0, alert, therm);
+            chip.reg[0x03] |= 0x40;
+            STEP(&chip, 6, 0, 0, 0, 4, 0, alert, therm);
+            chip.reg[0x02] = good.reg[0x02];
+            STEP(&chip, 6, 0, 0, 0, 4, 0, alert, therm);
+            STEP(&chip, 7, 20, 200, 1, 5, 0, alert, therm);
+
+            /* 6, by one fault of the state at a time */
+            for (int fault = 0; fault < 13; fault++) {
+                chip = good;
+                switch (fault) {
+                case 0: chip.run = 5; break;
+                case 1: chip.run = 255; break;
+                case 2: chip.reg[0x03] |= 0x01; break;       /* bits that 03 never keeps */
+                case 3: chip.reg[0x03] |= 0x02; break;
+                case 4: chip.reg[0x03] |= 0x08; break;
+                case 5: chip.reg[0x03] |= 0x10; break;
+                case 6: chip.address = 75; break;
+                case 7: chip.address = 0; break;
+                case 8: chip.reg[0x10] = 0x01; break;        /* the remote value */
+                case 9: chip.reg[0x09] = 0x20; break;        /* a hole */
+                case 10: chip.found = 0x80; break;
+                case 11: chip.converted = 4; break;
+                default: chip.therm2 |= 4; break;            /* no mark */
+                }
+                STEP(&chip, 0, 0, 0, 0, 6, 0, alert, therm);
+                STEP(&chip, 2, chip.address, 0x09, pin[i].configuration ^ 0x20, 6, 0, alert, therm);
+                STEP(&chip, 5, 0, 0, 0, 6, 0, alert, therm);
+                STEP(&chip, 8, 1, 0, 0, 6, 0, alert, therm);
+            }
+        }
+}
+
 /* "Status flags 6 and 4 stay latched as before": the same replies in both roles */
 static void test_therm2_flags(bool standby)
 {
@@ -1217,6 +1300,7 @@ static void test_therm2(void)
     test_therm2_codes();
     test_therm2_compared();
     test_therm2_line();
+    test_refused_lines();
     for (int standby = 0; standby <= 1; standby++) {
         test_therm2_marks(standby);
         test_therm2_flags(standby);

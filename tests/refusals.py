@@ -27,7 +27,7 @@ def unfit(log, at=()):
 # The proofs of a crate without functions that hold its definitions to what document 01 says: tables that are computed, and claims in other words.
 # The other files are laws, which restate a definition: one that changes breaks them, whether or not what is claimed is still true.
 SAYING = {
-    "rules": ["Tables", "Meant", "Forms", "Answered", "Therm", "Steps", "Status", "Alarm", "Assured", "Commands", "Kept", "Rows", "Judged", "Ended", "Left"],
+    "rules": ["Tables", "PinCases", "Meant", "Forms", "Answered", "Therm", "Steps", "Status", "Alarm", "Assured", "Commands", "Kept", "Rows", "Judged", "Ended", "Left"],
     "text_rules": ["Tables", "Written", "Begins", "RecordText", "AnswerText", "Completed", "Bounded", "PutCases"],
     "replay_rules": ["Examples", "ReplayCases", "Meant", "Alarms", "Consumed", "Room"],
     "console_rules": ["Examples", "Texts"],

@@ -9,6 +9,7 @@ import sys
 from pathlib import Path
 
 from checks import check, differs, end
+from definitions import blocks, digests, recorded, unlike
 from named import PLACE, changed, named
 from refusals import SAYING, unfit
 
@@ -268,6 +269,12 @@ def claims():
         seen += len(re.findall(r"^abbrev pub [A-Z]\w* : Type 0$", specs, re.M))
         found += [f"{crate.name}: {name}" for name in unproved(specs, proofs)]
     check(f"{seen} claims and types of the specs: each claim has its proof, by its type", found)
+    good = "-- A.\nuse a.b\n\n-- \"words\"\nabbrev pub f : A\nf = x  -- why\n\npub record R : Type 0 where\n  pub a : B\n"
+    check("a file's definitions are told apart, comments aside", differs(list(blocks(good)), [("f", "abbrev pub f : A f = x"), ("R", "pub record R : Type 0 where pub a : B")]))
+    have, want = digests(), recorded()
+    some = next(iter(have))
+    check("a definition that is changed, gone or new is found", differs(unlike(have | {some: "0", "x X.y": "1"}, have | {"z Z.z": "2"}), sorted([f"{some}: changed", "x X.y: new", "z Z.z: gone"])))
+    check(f"{len(have)} definitions, claims and tables are as tests/definitions.txt has them (tests/definitions.py make renews it)", unlike(have, want) or ([] if len(have) > 800 else ["so few"]))
     table = (ROOT / "crates" / "rules" / "specs" / "BenchCases.antt").read_text()
     check("the table has the bench cases K1 to K12", bench(table))
     check("a bench case without a row is found", differs(bench(re.sub(r"(-- K7\b.*\n)(?: *row .*\n)+", r"\1", table)), ["K7"]))
@@ -277,7 +284,7 @@ def claims():
 
 # Which files must refuse an edit of the rules: the tables and what is said in other words, or what is shown of an event and of every sequence; of these the first list
 # by the laws of an event or the theorem, the second by what is seen of a chip.
-TABLES = ["proofs/Tables.antt", "proofs/Meant.antt", "proofs/Forms.antt", "proofs/Answered.antt", "proofs/Judged.antt", "proofs/Ended.antt", "proofs/Left.antt", "proofs/Therm.antt"]
+TABLES = ["proofs/Tables.antt", "proofs/PinCases.antt", "proofs/Meant.antt", "proofs/Forms.antt", "proofs/Answered.antt", "proofs/Judged.antt", "proofs/Ended.antt", "proofs/Left.antt", "proofs/Therm.antt"]
 THEOREM = ["proofs/Steps.antt", "proofs/Status.antt", "proofs/Alarm.antt", "proofs/Commands.antt"]
 SEEN = ["proofs/Steps.antt", "proofs/Kept.antt"]
 ALARMS = [
@@ -293,8 +300,9 @@ ENDED = [
     "open_diode_waits_for_the_count", "open_diode_keeps_the_run", "open_diode_not_flagged",
 ]
 BESIDES = {name: ["Ended", "Tables"] for name in ENDED} | {
-    "therm2_masked_by_bit_7": ["Meant", "Tables"], "therm2_by_the_high_byte": ["Meant", "Ended", "Left", "Tables"], "therm2_hysteresis_not_scaled": ["Ended", "Tables"],
-    "therm2_mark_follows_bit_5": ["Ended", "Tables"], "therm2_only_at_conversions": ["Tables"], "alert_low_as_therm2": ["Meant", "Tables"],
+    "therm2_masked_by_bit_7": ["Meant", "PinCases"], "therm2_by_the_high_byte": ["Meant", "Ended", "Left", "PinCases"], "therm2_hysteresis_not_scaled": ["Ended", "PinCases"],
+    "therm2_mark_follows_bit_5": ["Ended", "PinCases"], "therm2_only_at_conversions": ["PinCases"], "alert_low_as_therm2": ["Meant", "PinCases", "Tables"],
+    "therm_released_at_the_limit": ["Meant", "PinCases", "Tables"], "hysteresis_past_zero": ["Meant", "PinCases", "Tables"],
 }
 
 LEFT = [

@@ -302,6 +302,31 @@ static void fan(generator *g)
         say_write(g, 0x09, reg[0x03] & ~0xA0);
 }
 
+/* A high limit moved past the value outside standby, where nothing compares; then standby, one event, and bit 5: what that event made of the
+   marks shows. */
+static void one_event_later(generator *g)
+{
+    static const uint8_t commands[] = {0x0B, 0x0C, 0x0D, 0x0E, 0x13, 0x14, 0x19, 0x20, 0x21, 0x0A, 0x11, 0x12, 0x22, 0x0F, 0x30};
+    const uint8_t *reg = g->chip.reg;
+    int32_t command = PICK(g, commands), at = command <= 0x0E ? command - 6 : command, chosen = random_between(g->random, 0, 99);
+    say_write(g, 0x09, reg[0x03] & ~0x60);
+    convert(g);
+    if (random_chance(g->random, 50))
+        say_write(g, 0x0B, random_chance(g->random, 50) ? within(reg[0x00] - 1, 0, 255) : 255);
+    if (random_chance(g->random, 50))
+        say_write(g, 0x0D, random_chance(g->random, 50) ? within(reg[0x01] - 1, 0, 255) : 255);
+    say_write(g, 0x09, reg[0x03] | 0x40 | (random_chance(g->random, 30) ? 0x20 : 0));
+    if (chosen < 80)
+        say_write(g, command, at < 0x23 ? reg[at] : 0);
+    else if (chosen < 87)
+        say_write(g, command, 256);
+    else if (chosen < 94)
+        say(g, WRITE, 76 + 77 - g->chip.address, command, at < 0x23 ? reg[at] : 0);
+    else
+        start(g);
+    say_write(g, 0x09, reg[0x03] | 0x20);
+}
+
 static void look(generator *g)
 {
     static const uint8_t registers[] = {0x00, 0x01, 0x03, 0x04, 0x05, 0x06, 0x07, 0x08, 0x10, 0x11, 0x12,
@@ -379,7 +404,7 @@ static void foreign(generator *g)
 typedef void action(generator *g);
 static action *const actions[] = {
     convert, start, end, limit, settle, configuration, one_shot, offset, consecutive,
-    status, respond, look, receive, any_command, reset, bad_event, foreign, pulled, fan,
+    status, respond, look, receive, any_command, reset, bad_event, foreign, pulled, fan, one_event_later,
 };
 enum { ACTIONS = sizeof actions / sizeof *actions };
 
@@ -388,15 +413,15 @@ static const struct character {
     bool in_standby;            /* the trace begins with a conversion, then standby */
     uint8_t weights[ACTIONS];
 } characters[] = {
-    /* conv st end lim sett conf shot off cons stat resp look rec any res bad for pull fan */
-    {false, {20, 2, 2, 10, 3, 6, 3, 4, 3, 12, 6, 6, 3, 8, 1, 4, 4, 2, 2}},    /* a little of all */
-    {false, {30, 1, 1, 14, 4, 1, 0, 0, 1, 16, 10, 4, 1, 0, 0, 1, 0, 3, 2}},   /* faults that come and go, and alerts */
-    {false, {40, 1, 1, 2, 2, 2, 0, 0, 5, 10, 5, 0, 0, 0, 1, 0, 0, 3, 1}},     /* faults in a row */
-    {true, {10, 0, 1, 40, 4, 3, 4, 1, 1, 20, 10, 3, 1, 0, 0, 1, 1, 3, 3}},    /* limits in standby */
-    {true, {30, 0, 0, 10, 12, 1, 0, 0, 5, 5, 2, 0, 0, 0, 0, 0, 0, 3, 2}},     /* one-shots in a row, alerts taken back between them */
-    {false, {25, 1, 1, 4, 1, 10, 2, 20, 1, 5, 2, 25, 1, 0, 0, 0, 0, 1, 1}},   /* ranges and offsets */
-    {false, {3, 3, 3, 1, 0, 2, 3, 1, 1, 3, 3, 2, 10, 50, 1, 8, 6, 0, 0}},     /* any command */
-    {false, {5, 5, 5, 1, 0, 4, 4, 0, 0, 4, 5, 0, 2, 5, 2, 40, 15, 0, 0}},     /* mostly refused */
+    /* conv st end lim sett conf shot off cons stat resp look rec any res bad for pull fan one */
+    {false, {20, 2, 2, 10, 3, 6, 3, 4, 3, 12, 6, 6, 3, 8, 1, 4, 4, 2, 2, 2}},    /* a little of all */
+    {false, {30, 1, 1, 14, 4, 1, 0, 0, 1, 16, 10, 4, 1, 0, 0, 1, 0, 3, 2, 2}},   /* faults that come and go, and alerts */
+    {false, {40, 1, 1, 2, 2, 2, 0, 0, 5, 10, 5, 0, 0, 0, 1, 0, 0, 3, 1, 2}},     /* faults in a row */
+    {true, {10, 0, 1, 40, 4, 3, 4, 1, 1, 20, 10, 3, 1, 0, 0, 1, 1, 3, 3, 2}},    /* limits in standby */
+    {true, {30, 0, 0, 10, 12, 1, 0, 0, 5, 5, 2, 0, 0, 0, 0, 0, 0, 3, 2, 2}},     /* one-shots in a row, alerts taken back between them */
+    {false, {25, 1, 1, 4, 1, 10, 2, 20, 1, 5, 2, 25, 1, 0, 0, 0, 0, 1, 1, 2}},   /* ranges and offsets */
+    {false, {3, 3, 3, 1, 0, 2, 3, 1, 1, 3, 3, 2, 10, 50, 1, 8, 6, 0, 0, 0}},     /* any command */
+    {false, {5, 5, 5, 1, 0, 4, 4, 0, 0, 4, 5, 0, 2, 5, 2, 40, 15, 0, 0, 0}},     /* mostly refused */
 };
 
 generator generate_begin(randoms *random, trace *to, int32_t address)

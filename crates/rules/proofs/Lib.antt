@@ -18,6 +18,7 @@ pub mod Rows
 pub mod Status
 pub mod Steps
 pub mod Tables
+pub mod PinCases
 pub mod Therm
 pub mod Unique
 pub mod WellFormed

@@ -17,7 +17,6 @@ use Rattle.rules.specs.Assured.{uncleared, unread}
 use Rattle.rules.specs.Hot.{hot}
 use Rattle.rules.specs.BenchCases.{BenchCases, benchRows}
 use Rattle.rules.specs.FieldCases.{FieldCases, answeredWith, fieldTests}
-use Rattle.rules.specs.PinCases.{PinCases, pinRows}
 use Rattle.rules.specs.RuleCases.{RuleCases, ruleRows}
 
 -- to unfold this is to unfold all that a step computes with
@@ -32,10 +31,6 @@ bench-cases = refl
 pub rule-cases : RuleCases
 unfolding opened answeredAt answeredFrom gots wants ruleRows
 rule-cases = refl
-
-pub pin-cases : PinCases
-unfolding opened answeredAt answeredFrom gots wants pinRows
-pin-cases = refl
 
 pub field-cases : FieldCases
 unfolding opened answeredWith fieldTests
