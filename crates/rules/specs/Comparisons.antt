@@ -42,6 +42,7 @@ abbrev pub comparatorOf : ℕ → ℕ → ℕ → Bool → Bool
 comparatorOf limit hysteresis value was =
     cond (ltb limit value) true (cond (leb value (limit - hysteresis)) false was)
 
+-- the two of a channel; 02, item 4: pin 6 "is a second comparator"
 pub data Comparator : Type 0 where
   Therm : Comparator
   Therm2 : Comparator
