@@ -2,6 +2,8 @@
 use replay::play::play;
 use text::answer::write_end;
 use text_rules::answer::Wrote;
+use text_rules::sizes::LONGEST_ANSWER;
+use text_rules::sizes::SHORTEST_RECORD;
 ghost use Prim.Native.Nat.{_≤_};
 ghost use mathlib.Core.Path.{_≡_};
 ghost use lib.ListN.{length};
@@ -10,8 +12,8 @@ ghost use Rattle.console_rules.specs.Console.{Written, countOf, longest};
 // The longest trace that is replayed.
 pub const MOST: usize = 24576;
 
-// The longest text: an answer of 33 bytes for each 19 of trace, and 6 for the end.
-pub const LONGEST: usize = 33 * (MOST / 19) + 6;
+// The longest text: the longest answer for each shortest record, and 6 for the end.
+pub const LONGEST: usize = LONGEST_ANSWER * (MOST / SHORTEST_RECORD) + 6;
 
 fn count(wrote: Wrote) -> usize
     ensures { λ r. ⌜ r ≡ countOf wrote ⌝ }

@@ -13,6 +13,7 @@ use Rattle.rules.specs.declared.state.State.{State}
 use Rattle.text_rules.specs.declared.record.Record.{Record}
 use Rattle.text_rules.specs.declared.record.Parsed.the-variants.{Whole}
 use Rattle.text_rules.specs.Record.{recordOf}
+use Rattle.text_rules.specs.Sizes.{shortestRecord}
 use Rattle.text_rules.proofs.Put.{front-length, front-none, front-then, rest}
 use Rattle.text_rules.proofs.Records.{record-fits}
 use Rattle.replay_rules.specs.declared.play.Turn.{Turn}
@@ -25,7 +26,7 @@ use Rattle.replay_rules.proofs.Came.Came.{On, Full, Bad}
 record Gone (part : List ℕ) (room n k : ℕ) (text : List ℕ) : Type 0 where
   count : k ≡ length text
   fits : length text ≤ room
-  long : 19 ≤ n
+  long : shortestRecord ≤ n
   inside : n ≤ length part
 
 gone : {s : State} {part : List ℕ} {room : ℕ} {t : State} {n k : ℕ} {text : List ℕ} → Came s part room (Went t n k) text → Gone part room n k text
@@ -47,7 +48,7 @@ pub mid-as : {s s′ : State} {t x₀ x x′ : List ℕ} {now now′ : State} {n
 mid-as m p q r = rw (← p, q, r) m
 
 -- "An empty rest is the end, code 0", however many turns are left
-at-end : (turns : ℕ) (p : Run) (room : ℕ) → runFrom turns p [] room ≡ ended p 0
+pub at-end : (turns : ℕ) (p : Run) (room : ℕ) → runFrom turns p [] room ≡ ended p 0
 unfolding runFrom
 at-end zero p room = refl
 at-end (suc turns) p room = refl
@@ -91,8 +92,8 @@ module _ {s : State} {t x₀ x : List ℕ} {now : State} {n u w : ℕ} (m : Mid 
     said : {to : Turn} → r ≡ to → turnOf now (drop u t) (length x₀ - w) ≡ to
     said e = rw (rest u t, room) at (sym (turn .said) ∙ e)
 
-    -- a record has 19 bytes or more
-    pub turn-long : {later : State} {k j : ℕ} → r ≡ Went later k j → 19 ≤ k
+    -- no record is shorter than the shortest
+    pub turn-long : {later : State} {k j : ℕ} → r ≡ Went later k j → shortestRecord ≤ k
     turn-long e = gone (came-so turn e) .long
 
     pub mid-step : {later : State} {k j : ℕ} → r ≡ Went later k j → Mid s t x₀ (back w x ys) later (n + 1) (u + k) (w + j)

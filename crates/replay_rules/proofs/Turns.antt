@@ -21,6 +21,7 @@ use Rattle.text_rules.specs.declared.answer.Wrote.{Wrote}
 use Rattle.text_rules.specs.declared.answer.Wrote.the-variants.{Bytes, NoRoom}
 use Rattle.text_rules.specs.Record.{recordOf}
 use Rattle.text_rules.specs.Answer.{Put}
+use Rattle.text_rules.specs.Sizes.{shortestRecord}
 use Rattle.text_rules.proofs.Put.{put-front, put-none}
 use Rattle.text_rules.proofs.Records.{record-fits}
 use Rattle.text_rules.proofs.record.Parsed as parsed
@@ -85,7 +86,7 @@ module _ (alone : Bool) (e : Numbers) (part : List ℕ) {p : Parsed} (next : p �
     pub read-whole : alone ≡ false → recordOf part ≡ Whole r n
     read-whole h = sym (next-read h) ∙ is
 
-    pub read-long : alone ≡ false → 19 ≤ n
+    pub read-long : alone ≡ false → shortestRecord ≤ n
     read-long h = record-fits part (read-whole h) .0
 
     pub not-handed : (n ≡ 0 → ⊥) → alone ≡ false

@@ -4,6 +4,8 @@ pub mod Room
 pub mod Replay
 pub mod Consumed
 pub mod Alarms
+pub mod Best
 pub mod Examples
 pub mod ReplayCases
+pub mod Enough
 pub mod Meant

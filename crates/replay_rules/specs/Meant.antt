@@ -16,7 +16,7 @@ use Rattle.replay_rules.specs.declared.play.Played.{Played}
 use Rattle.replay_rules.specs.declared.play.Turn.{Turn}
 use Rattle.replay_rules.specs.declared.play.Turn.the-variants.{Went, Stopped}
 use Rattle.replay_rules.specs.Play.{Ran, Run, Turned, addedOf, numbersOf, runOf, textOf, turnCode, turnOf}
-use Rattle.replay_rules.specs.Replay.{Replayed, Result, word}
+use Rattle.replay_rules.specs.Replay.{Replayed, Result, word, wordAt}
 use Rattle.replay_rules.specs.Room.{roomOf}
 
 -- a record whose answer fits is answered, whatever its code; one whose answer does not is code 8; no record is code 7, whatever the room
@@ -42,6 +42,10 @@ RunsBegin = (s : State) (room : ℕ) → Beginning s room
 -- "each 4 bytes, low byte first"
 abbrev pub WordsMean : Type 0
 WordsMean = (word 67305985 ≡ (1 ∷ 2 ∷ 3 ∷ 4 ∷ [])) × (word 4294967295 ≡ (255 ∷ 255 ∷ 255 ∷ 255 ∷ [])) × (word 16777216 ≡ (0 ∷ 0 ∷ 0 ∷ 1 ∷ []))
+
+-- and a number that 4 bytes hold is read back, whatever comes behind it
+abbrev pub WordIsRead : Type 0
+WordIsRead = (n : ℕ) (more : List ℕ) → n < 4294967296 → wordAt (word n ++ more) 0 ≡ n
 
 -- 33 bytes of room for each full 19 of trace
 abbrev pub RoomMeans : Type 0

@@ -14,6 +14,7 @@ use Rattle.text_rules.specs.declared.record.Parsed.{Parsed}
 use Rattle.text_rules.specs.declared.record.Parsed.the-variants.{Whole, Part, Malformed}
 use Rattle.text_rules.specs.Record.{parsedCode, recordOf}
 use Rattle.text_rules.specs.Answer.{Front, answerText, put, wroteCode}
+use Rattle.text_rules.specs.Sizes.{shortestRecord}
 use Rattle.text_rules.specs.declared.answer.Wrote.the-variants.{NoRoom}
 use Rattle.replay_rules.specs.declared.play.Played.{Played}
 use Rattle.replay_rules.specs.declared.play.Turn.{Turn}
@@ -101,7 +102,7 @@ pub record Mid (s : State) (t x₀ x : List ℕ) (now : State) (n u w : ℕ) : T
   pub text : List ℕ
   pub front : Front text x₀ x w
   pub inside : u ≤ length t
-  pub few : 19 * n ≤ u
+  pub few : shortestRecord * n ≤ u
   pub goes : runOf s t (length x₀) ≡ runFrom (length t - n) (record { code = 0; records = n; used = u; text = text; state = now }) (drop u t) (length x₀ - w)
 
 -- what a whole trace's play promises: each of its numbers, and every byte of the output

@@ -1,12 +1,12 @@
 -- The report, the refusals, and replay whole. Assumes nothing.
-use Prim.Native.Nat.{ℕ, _/_, _%_}
+use Prim.Native.Nat.{ℕ, _+_, _*_, _/_, _%_}
 use mathlib.Core.Path.{_≡_}
 use mathlib.Core.Bool.{Bool, cond, _||_, not}
 use mathlib.Core.List.{List, [], _∷_, _++_}
 use lib.Dec.{eqb, ltb}
 use lib.IntN.{ℤ}
 use lib.IntN.ℤ.{pos}
-use lib.ListN.{length}
+use lib.ListN.{getD, length}
 use Rattle.rules.specs.declared.answer.Made.{Made}
 use Rattle.rules.specs.PowerOn.{madeOf}
 use Rattle.text_rules.specs.Answer.{put}
@@ -15,6 +15,10 @@ use Rattle.replay_rules.specs.Play.{Run, runOf}
 -- "each 4 bytes, low byte first"
 abbrev pub word : ℕ → List ℕ
 word n = n % 256 ∷ n / 256 % 256 ∷ n / 65536 % 256 ∷ n / 16777216 % 256 ∷ []
+
+-- the number that stands so at a place
+abbrev pub wordAt : List ℕ → ℕ → ℕ
+wordAt b n = getD b n 0 + 256 * getD b (n + 1) 0 + 65536 * getD b (n + 2) 0 + 16777216 * getD b (n + 3) 0
 
 -- "code, records answered, trace bytes used, output bytes written"
 unfoldable pub reportOf : Run → List ℕ

@@ -10,8 +10,9 @@ use saved::save::save;
 use session_rules::session::Session;
 ghost use mathlib.Core.Path.{_≡_};
 ghost use lib.ListN.{take};
+ghost use Rattle.replay_rules.specs.Replay.{wordAt};
 ghost use Rattle.saved_rules.specs.Layout.{sameBytes};
-ghost use Rattle.session_rules.specs.Bytes.{bytesOf, bytesOver, headOf, heldIn, marksOf, wordAt};
+ghost use Rattle.session_rules.specs.Bytes.{bytesOf, bytesOver, headOf, heldIn, marksOf};
 ghost use Rattle.session_rules.specs.Session.{padded};
 
 // Four bytes, the low one first. A place that is no place reads as 0.

@@ -5,6 +5,10 @@ use crate::window::packed;
 use saved::save::same;
 use session_rules::session::Opened;
 use session_rules::session::Session;
+use text_rules::sizes::LONGEST_ANSWER;
+use text_rules::sizes::LONGEST_RECORD;
+use text_rules::sizes::SHORTEST_ANSWER;
+use text_rules::sizes::SHORTEST_RECORD;
 ghost use mathlib.Core.Path.{_≡_};
 ghost use mathlib.Core.Bool.{_&&_};
 ghost use lib.Dec.{leb};
@@ -42,10 +46,10 @@ fn counts_fit(s: Session) -> bool
     if (MOST < s.used) | (MOST < s.count) | (s.used < s.records) {
         return false;
     }
-    (19 * s.records <= s.used)
-        & (s.used <= 39 * s.records)
-        & (31 * s.records <= s.written)
-        & (s.written <= 33 * s.records)
+    (SHORTEST_RECORD * s.records <= s.used)
+        & (s.used <= LONGEST_RECORD * s.records)
+        & (SHORTEST_ANSWER * s.records <= s.written)
+        & (s.written <= LONGEST_ANSWER * s.records)
         & (s.used + s.count <= MOST)
 }
 

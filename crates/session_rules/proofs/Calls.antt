@@ -185,7 +185,7 @@ bad-at-once address e cs c more room going seven early h =
 
 -- ---- Room ----
 
-eight : (s : Session) (portion : List ℕ) (end : Bool) (room : ℕ) {f : Feed} → Given s portion end room f → f .code ≡ 8
+pub eight : (s : Session) (portion : List ℕ) (end : Bool) (room : ℕ) {f : Feed} → Given s portion end room f → f .code ≡ 8
     → let r = runOf (s .chip) (carriedOf s ++ portion) room in Open s (length portion) × (Way s portion end room r f) × (f ≡ stoppedAt s r) × (r .code ≡ 8)
 eight s portion end room (Refused code (Strange a) n) e = absurd (omega arith)
 eight s portion end room (Refused code (Late a b c) n) e = absurd (omega arith)
@@ -261,7 +261,7 @@ room-enough s c h e =
 -- ---- A trace that is cut ----
 
 -- no more is taken than was offered
-inside : (s : Session) (c : Call) → fed s c .taken ≤ length (c .portion)
+pub inside : (s : Session) (c : Call) → fed s c .taken ≤ length (c .portion)
 inside s c = by (given s (c .portion) (c .end) (c .room))
   where
     by : {f : Feed} → Given s (c .portion) (c .end) (c .room) f → f .taken ≤ length (c .portion)

@@ -7,6 +7,7 @@ use lib.Dec.{leb, ltb}
 use borrow.Author.Tests.{leb-true, lt-leb, ltb-false, ltb-true}
 use Rattle.rules.specs.WellFormed.{wellFormed}
 use Rattle.rules.proofs.Lists.{left, no, right}
+use Rattle.text_rules.specs.Sizes.{longestAnswer, longestRecord, shortestAnswer, shortestRecord}
 use Rattle.session_rules.specs.declared.session.Session.{Session}
 use Rattle.session_rules.specs.Session.{carriedFits, countsFit, endFits, isSession}
 
@@ -29,14 +30,14 @@ tooLarge s = (ltb 16777216 (s .used) || ltb 16777216 (s .count)) || ltb (s .used
 -- what fits, but for the total
 abbrev before : Session → Bool
 before s =
-    leb (19 * s .records) (s .used) && leb (s .used) (39 * s .records)
-    && (leb (31 * s .records) (s .written) && leb (s .written) (33 * s .records))
+    leb (shortestRecord * s .records) (s .used) && leb (s .used) (longestRecord * s .records)
+    && (leb (shortestAnswer * s .records) (s .written) && leb (s .written) (longestAnswer * s .records))
 
 over : (s : Session) → 16777216 < s .used + s .count → false ≡ countsFit s
 over s p = rw (lt-leb (s .used + s .count) 16777216 p) (and-false (before s))
 
 few : (s : Session) → s .used < s .records → false ≡ countsFit s
-few s p = rw (lt-leb (19 * s .records) (s .used) (omega arith))
+few s p = rw (lt-leb (shortestRecord * s .records) (s .used) (omega arith))
 
 pub too-large : (s : Session) → tooLarge s ≡ true → false ≡ countsFit s
 too-large s e =
@@ -60,12 +61,12 @@ regroup true true true d e = refl
 
 -- the tests in the order of the code
 pub tested : (s : Session)
-    → leb (19 * s .records) (s .used) && leb (s .used) (39 * s .records) && leb (31 * s .records) (s .written)
-    && leb (s .written) (33 * s .records) && leb (s .used + s .count) 16777216
+    → leb (shortestRecord * s .records) (s .used) && leb (s .used) (longestRecord * s .records) && leb (shortestAnswer * s .records) (s .written)
+    && leb (s .written) (longestAnswer * s .records) && leb (s .used + s .count) 16777216
     ≡ countsFit s
 tested s =
-    regroup (leb (19 * s .records) (s .used)) (leb (s .used) (39 * s .records)) (leb (31 * s .records) (s .written))
-    (leb (s .written) (33 * s .records)) (leb (s .used + s .count) 16777216)
+    regroup (leb (shortestRecord * s .records) (s .used)) (leb (s .used) (longestRecord * s .records)) (leb (shortestAnswer * s .records) (s .written))
+    (leb (s .written) (longestAnswer * s .records)) (leb (s .used + s .count) 16777216)
 
 -- what a session has taken and carries is no more than a trace may have
 pub session-fits : (s : Session) → isSession s ≡ true → s .used + s .count ≤ 16777216

@@ -15,6 +15,7 @@ use Rattle.rules.proofs.WellFormed.{steps-well-formed}
 use Rattle.text_rules.specs.declared.record.Record.{Record}
 use Rattle.text_rules.specs.declared.record.Parsed.the-variants.{Whole, Part, Malformed}
 use Rattle.text_rules.specs.Record.{recordOf}
+use Rattle.text_rules.specs.Sizes.{longestAnswer, longestRecord, shortestAnswer, shortestRecord}
 use Rattle.text_rules.proofs.Bounded.{part-ends-inside, record-is-bounded}
 use Rattle.text_rules.proofs.More.{whole-stays}
 use Rattle.text_rules.proofs.Records.{record-fits}
@@ -23,8 +24,8 @@ use Rattle.replay_rules.specs.Play.{Run, answerTo, ended, numbersOf, runOf, tex
 use Rattle.session_rules.proofs.Course.{Course, Lacking, after, after-after, course, halt, halt-after, one, run-end, run-goes, run-lacks, run-tight}
 use Rattle.session_rules.proofs.Course.Course.{End, Lacks, Tight, Goes}
 
--- an answer has 31 to 33 bytes
-pub text-size : (s : State) (r : Record) → (31 ≤ length (textOf (answerTo s r))) × (length (textOf (answerTo s r)) ≤ 33)
+-- no answer is shorter or longer than there are
+pub text-size : (s : State) (r : Record) → (shortestAnswer ≤ length (textOf (answerTo s r))) × (length (textOf (answerTo s r)) ≤ longestAnswer)
 unfolding textOf
 text-size s r =
     let a = answerTo s r in
@@ -34,10 +35,10 @@ text-size s r =
 -- how large a run's numbers are
 pub record Sizes (bytes : List ℕ) (room : ℕ) (q : Run) : Type 0 where
   pub inside : q .used ≤ length bytes
-  pub least : 19 * q .records ≤ q .used
-  pub most : q .used ≤ 39 * q .records
-  pub short : 31 * q .records ≤ length (q .text)
-  pub long : length (q .text) ≤ 33 * q .records
+  pub least : shortestRecord * q .records ≤ q .used
+  pub most : q .used ≤ longestRecord * q .records
+  pub short : shortestAnswer * q .records ≤ length (q .text)
+  pub long : length (q .text) ≤ longestAnswer * q .records
   pub fits : length (q .text) ≤ room
 
 pub sizes : {s : State} {bytes : List ℕ} {room : ℕ} {q : Run} → Course s bytes room q → Sizes bytes room q

@@ -10,8 +10,9 @@ use Rattle.rules.specs.declared.state.State.{State}
 use Rattle.saved_rules.specs.Layout.{isSet, saveOf, savedOver, stateAt}
 use Rattle.saved_rules.proofs.Saved.{saved-is-loaded}
 use Rattle.text_rules.proofs.Put.{rest}
+use Rattle.replay_rules.specs.Replay.{wordAt}
 use Rattle.session_rules.specs.declared.session.Session.{Session}
-use Rattle.session_rules.specs.Bytes.{bytesOf, headOf, heldIn, marksOf, wordAt}
+use Rattle.session_rules.specs.Bytes.{bytesOf, headOf, heldIn, marksOf}
 use Rattle.session_rules.specs.Session.{carriedOf, padded}
 use Rattle.session_rules.proofs.Windows.{drop-min, length-packed, zeros}
 

@@ -14,34 +14,17 @@ use Rattle.rules.specs.PowerOn.{madeOf}
 use Rattle.saved_rules.specs.Layout.{flag, isSet, sameBytes, saveOf, stateAt}
 use Rattle.saved_rules.proofs.Same.{are-same, same-self}
 use Rattle.saved_rules.proofs.Saved.{saved-is-loaded}
-use Rattle.replay_rules.specs.Replay.{word}
+use Rattle.replay_rules.specs.Replay.{word, wordAt}
+use Rattle.replay_rules.proofs.Words.{word-back}
 use Rattle.session_rules.specs.declared.session.Session.{Session}
 use Rattle.session_rules.specs.Session.{carriedOf, isSession, openedOf, padded}
 use Rattle.session_rules.specs.Portion.{Feed, feedOf, refusedWith, reportAfter}
 use Rattle.session_rules.specs.Calls.{Call, sessionAfter, sessionAt}
-use Rattle.session_rules.specs.Bytes.{bytesOf, headOf, heldIn, isHeld, marksOf, wordAt}
+use Rattle.session_rules.specs.Bytes.{bytesOf, headOf, heldIn, isHeld, marksOf}
 use Rattle.session_rules.specs.Face.{Feeding, Opening, feedInto, isEnd, isFlag, nothing, openOf}
 use Rattle.session_rules.specs.InBytes.{CallsInBytes, FeedIsFed, FeedsAs, HeldIsSaved, Lent, OpenMeans, PromisesMet, BytesRefused, Refuses, Restored, SessionIsHeld, ZerosAreNone, bytesAfter, callOf, lentTo}
 use Rattle.session_rules.proofs.Portions.{refused, same-session}
 use Rattle.session_rules.proofs.Sessions.{Held, carried-size, fed-held, given, held, is-held, opened-held}
-
--- four bytes make up the number that they are of
-word-back : (n : ℕ) → n < 4294967296 → n % 256 + 256 * (n / 256 % 256) + 65536 * (n / 65536 % 256) + 16777216 * (n / 16777216 % 256) ≡ n
-word-back n h = rw (twice, thrice) (digits n (n / 256) (n / 256 / 256) (n / 256 / 256 / 256) refl refl refl (omega arith))
-  where
-    twice : n / 65536 ≡ n / 256 / 256
-    twice = omega arith
-
-    thrice : n / 16777216 ≡ n / 256 / 256 / 256
-    thrice = omega arith
-
-    digits : (n y z w : ℕ) → y ≡ n / 256 → z ≡ y / 256 → w ≡ z / 256 → w < 256 → n % 256 + 256 * (y % 256) + 65536 * (z % 256) + 16777216 * (w % 256) ≡ n
-    digits n y z w e f g h =
-        let a : w % 256 ≡ w = omega arith in
-        let b : z % 256 + 256 * w ≡ z = omega (arith, g) in
-        let c : y % 256 + 256 * z ≡ y = omega (arith, f) in
-        let d : n % 256 + 256 * y ≡ n = omega (arith, e) in
-        omega (arith, a, b, c, d)
 
 flag-back : (t : Bool) → isSet (flag t) ≡ t
 flag-back true = refl

@@ -15,6 +15,7 @@ use Rattle.rules.specs.declared.state.State.{State}
 use Rattle.text_rules.specs.declared.record.Parsed.the-variants.{Part, Malformed}
 use Rattle.text_rules.specs.Record.{recordOf}
 use Rattle.text_rules.specs.Answer.{Front}
+use Rattle.text_rules.specs.Sizes.{shortestRecord}
 use Rattle.text_rules.proofs.Bounded.{window-decides}
 use Rattle.text_rules.proofs.More.{whole-stays}
 use Rattle.text_rules.proofs.Records.{record-fits}
@@ -38,7 +39,7 @@ pub record Midway (s : State) (t x₀ x : List ℕ) (now : State) (n u w : ℕ) 
   pub text : List ℕ
   pub front : Front text x₀ x w
   pub inside : u ≤ length t
-  pub few : 19 * n ≤ u
+  pub few : shortestRecord * n ≤ u
   pub goes : runOf s t (length x₀) ≡ after (so 0 n u text now) (runOf now (drop u t) (length x₀ - w))
 
 pub midway-start : (s : State) (t x : List ℕ) → Midway s t x x s 0 0 0
@@ -68,7 +69,7 @@ pub behind : (first second : List ℕ) (u : ℕ) → length first ≤ u → drop
 behind first second u h = drop-append u first second h ∙ sym (rest (u - length first) second)
 
 -- how large the numbers of a play are
-pub ran-sizes : {s : State} {t before after : List ℕ} {p : Played} → Ran s t before after p → (19 * p .records ≤ p .used) × (p .used ≤ length t) × (p .written ≤ length before) × (length after ≡ length before)
+pub ran-sizes : {s : State} {t before after : List ℕ} {p : Played} → Ran s t before after p → (shortestRecord * p .records ≤ p .used) × (p .used ≤ length t) × (p .written ≤ length before) × (length after ≡ length before)
 ran-sizes {s} {t} {before} ran =
     let z = sizes (course s t (length before)) in
     let text = runOf s t (length before) .text in (

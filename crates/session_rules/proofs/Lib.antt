@@ -14,4 +14,5 @@ pub mod Reached
 pub mod Calls
 pub mod Portions
 pub mod InBytes
+pub mod OneOutput
 pub mod SessionCases

@@ -15,6 +15,7 @@ use Rattle.rules.proofs.WellFormed.{fresh-well-formed}
 use Rattle.text_rules.specs.declared.record.Parsed.{Parsed}
 use Rattle.text_rules.specs.declared.record.Parsed.the-variants.{Whole, Part, Malformed}
 use Rattle.text_rules.specs.Record.{recordOf}
+use Rattle.text_rules.specs.Sizes.{longestAnswer, longestRecord, shortestAnswer, shortestRecord}
 use Rattle.text_rules.proofs.Bounded.{part-is-bounded}
 use Rattle.saved_rules.specs.Layout.{sameBytes}
 use Rattle.saved_rules.proofs.Same.{are-same, same-self}
@@ -42,10 +43,10 @@ is-part Malformed e = absurd (let y : _≡_ {A = ℕ} 0 1 = cc in omega arith)
 -- a session, field by field
 pub record Held (s : Session) : Type 0 where
   pub well : wellFormed (s .chip) ≡ true
-  pub least : 19 * s .records ≤ s .used
-  pub most : s .used ≤ 39 * s .records
-  pub short : 31 * s .records ≤ s .written
-  pub long : s .written ≤ 33 * s .records
+  pub least : shortestRecord * s .records ≤ s .used
+  pub most : s .used ≤ longestRecord * s .records
+  pub short : shortestAnswer * s .records ≤ s .written
+  pub long : s .written ≤ longestAnswer * s .records
   pub total : s .used + s .count ≤ 16777216
   pub few : s .count ≤ 38
   pub padding : padded (carriedOf s) ≡ s .carried
@@ -63,8 +64,8 @@ pub held : (s : Session) → isSession s ≡ true → Held s
 unfolding isSession partial
 held s e =
     let a = four (wellFormed (s .chip)) (countsFit s) (carriedFits s) (endFits s) e in
-    let b = four (leb (19 * s .records) (s .used)) (leb (s .used) (39 * s .records)) (leb (31 * s .records) (s .written) && leb (s .written) (33 * s .records)) (leb (s .used + s .count) 16777216) (a .1) in
-    let c = both (leb (31 * s .records) (s .written)) (leb (s .written) (33 * s .records)) (b .2) in
+    let b = four (leb (shortestRecord * s .records) (s .used)) (leb (s .used) (longestRecord * s .records)) (leb (shortestAnswer * s .records) (s .written) && leb (s .written) (longestAnswer * s .records)) (leb (s .used + s .count) 16777216) (a .1) in
+    let c = both (leb (shortestAnswer * s .records) (s .written)) (leb (s .written) (longestAnswer * s .records)) (b .2) in
     let d = four true (leb (s .count) 38) (sameBytes (padded (carriedOf s)) (s .carried)) (partial (carriedOf s)) (a .2) in
     record {
       well = a .0;

@@ -1,11 +1,11 @@
 -- A session in 256 bytes: the layout's number first, the chip's 128 bytes last, and 0 where a byte has no meaning. Assumes nothing.
-use Prim.Native.Nat.{ℕ, _+_, _*_, _%_}
+use Prim.Native.Nat.{ℕ, _%_}
 use mathlib.Core.Bool.{Bool, cond}
 use mathlib.Core.List.{List, [], _∷_, _++_}
 use lib.Dec.{eqb}
 use lib.ListN.{drop, getD, length, replicate}
 use Rattle.saved_rules.specs.Layout.{flag, isSet, sameBytes, saveOf, stateAt}
-use Rattle.replay_rules.specs.Replay.{word}
+use Rattle.replay_rules.specs.Replay.{word, wordAt}
 use Rattle.session_rules.specs.declared.session.Session.{Session}
 use Rattle.session_rules.specs.Session.{carriedOf, padded}
 
@@ -24,10 +24,6 @@ bytesOf s = headOf s ++ saveOf (s .chip)
 -- any other length is left as it is
 abbrev pub bytesOver : List ℕ → List ℕ → List ℕ
 bytesOver bytes before = cond (eqb (length before) 256) bytes before
-
--- four bytes, the low one first
-abbrev pub wordAt : List ℕ → ℕ → ℕ
-wordAt b n = getD b n 0 + 256 * getD b (n + 1) 0 + 65536 * getD b (n + 2) 0 + 16777216 * getD b (n + 3) 0
 
 unfoldable pub heldIn : List ℕ → Session
 heldIn b =

@@ -11,6 +11,7 @@ use Rattle.rules.specs.PowerOn.{madeOf}
 use Rattle.text_rules.specs.declared.record.Record.{Record}
 use Rattle.text_rules.specs.declared.record.Parsed.the-variants.{Whole}
 use Rattle.text_rules.specs.Record.{recordOf}
+use Rattle.text_rules.specs.Sizes.{longestAnswer}
 use Rattle.replay_rules.specs.Alarms.{historyAt, runAt}
 use Rattle.replay_rules.specs.Play.{answerTo, textOf}
 use Rattle.replay_rules.specs.Replay.{reportOf}
@@ -131,7 +132,7 @@ EightMeans = (s : Session) (c : Call) → fed s c .code ≡ 8 → Waiting s c (f
 
 -- with room for one answer it has answered a record, so that a caller who comes back gets on; with room for all, it is not given
 abbrev pub GetsOn : Type 0
-GetsOn = (s : Session) (c : Call) → fed s c .code ≡ 8 → 33 ≤ c .room → s .records < fed s c .session .records
+GetsOn = (s : Session) (c : Call) → fed s c .code ≡ 8 → longestAnswer ≤ c .room → s .records < fed s c .session .records
 
 abbrev pub RoomEnough : Type 0
 RoomEnough = (s : Session) (c : Call) → roomOf (s .count + length (c .portion)) ≤ c .room → fed s c .code ≡ 8 → ⊥

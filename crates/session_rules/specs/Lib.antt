@@ -7,4 +7,5 @@ pub mod Portions
 pub mod Bytes
 pub mod Face
 pub mod InBytes
+pub mod OneOutput
 pub mod SessionCases

@@ -11,6 +11,7 @@ use Rattle.rules.specs.WellFormed.{wellFormed}
 use Rattle.text_rules.specs.declared.record.Record.{Record}
 use Rattle.text_rules.specs.declared.record.Parsed.the-variants.{Whole, Part, Malformed}
 use Rattle.text_rules.specs.Record.{recordOf}
+use Rattle.text_rules.specs.Sizes.{longestAnswer, longestRecord, shortestAnswer, shortestRecord}
 use Rattle.replay_rules.specs.Play.{Run, runOf}
 use Rattle.session_rules.specs.declared.session.Fed.{Fed}
 use Rattle.session_rules.specs.declared.session.Session.{Session}
@@ -29,14 +30,14 @@ pub record Opens (address : ℤ) : Type 0 where
 abbrev pub OpeningMeans : Type 0
 OpeningMeans = (address : ℤ) → Opens address
 
--- which sessions there are: a chip that code 6 takes; records of 19 to 39 bytes and answers of 31 to 33; a partial record of 38 bytes at most, with
+-- which sessions there are: a chip that code 6 takes; records and answers as long as they can be; a partial record of 38 bytes at most, with
 -- zeros behind it; 16 MiB at most in all; after the end something is carried exactly if it stopped
 pub record Fits (s : Session) : Type 0 where
   pub chip : wellFormed (s .chip) ≡ true
-  pub least : 19 * s .records ≤ s .used
-  pub most : s .used ≤ 39 * s .records
-  pub short : 31 * s .records ≤ s .written
-  pub long : s .written ≤ 33 * s .records
+  pub least : shortestRecord * s .records ≤ s .used
+  pub most : s .used ≤ longestRecord * s .records
+  pub short : shortestAnswer * s .records ≤ s .written
+  pub long : s .written ≤ longestAnswer * s .records
   pub total : s .used + s .count ≤ 16777216
   pub few : s .count ≤ 38
   pub zeros : s .carried ≡ take (s .count) (s .carried) ++ replicate (38 - s .count) 0

@@ -13,6 +13,7 @@ use Rattle.rules.specs.WellFormed.{wellFormed}
 use Rattle.text_rules.specs.declared.record.Parsed.{Parsed}
 use Rattle.text_rules.specs.declared.record.Parsed.the-variants.{Whole, Part, Malformed}
 use Rattle.text_rules.specs.Record.{recordOf}
+use Rattle.text_rules.specs.Sizes.{longestAnswer, longestRecord, shortestAnswer, shortestRecord}
 use Rattle.saved_rules.specs.Layout.{sameBytes}
 use Rattle.session_rules.specs.declared.session.Opened.{Opened}
 use Rattle.session_rules.specs.declared.session.Session.{Session}
@@ -41,11 +42,11 @@ openedFrom chip =
 unfoldable pub openedOf : ℤ → Opened
 openedOf address = record { code = madeOf address .code; session = openedFrom (madeOf address .state) }
 
--- a record has 19 to 39 bytes, an answer 31 to 33; "the total" is at most 16 MiB
+-- as many records as the bytes used and written can be; "the total" is at most 16 MiB
 abbrev pub countsFit : Session → Bool
 countsFit s =
-    leb (19 * s .records) (s .used) && leb (s .used) (39 * s .records)
-    && (leb (31 * s .records) (s .written) && leb (s .written) (33 * s .records))
+    leb (shortestRecord * s .records) (s .used) && leb (s .used) (longestRecord * s .records)
+    && (leb (shortestAnswer * s .records) (s .written) && leb (s .written) (longestAnswer * s .records))
     && leb (s .used + s .count) 16777216
 
 abbrev pub carriedFits : Session → Bool

@@ -1,4 +1,4 @@
--- How long a record is: by how it is written, for what was read was written so. Assumes nothing.
+-- How long a record is: by how it is written, for what was read was written so; and an answer, by its lines. Assumes nothing.
 use Prim.Native.Nat.{ℕ, zero, suc, _+_, _/_, _≤_, _<_}
 use native.Mathlib.Omega.{arith}
 use mathlib.Core.Path.{_≡_, refl, sym, ap, _∙_}
@@ -13,15 +13,19 @@ use lib.Seq.{take-all, take-append-le, take-append-seam}
 use Rattle.text_rules.specs.declared.record.Record.{Record}
 use Rattle.text_rules.specs.declared.record.Parsed.{Parsed}
 use Rattle.text_rules.specs.declared.record.Parsed.the-variants.{Whole, Part, Malformed}
+use Rattle.text_rules.specs.Answer.{answerText, decimalOf, lineText}
 use Rattle.text_rules.specs.Number.{digitsOf, numberOf, plainOf}
 use Rattle.text_rules.specs.Line.{fitOf, lineOf}
 use Rattle.text_rules.specs.Record.{recordOf}
-use Rattle.text_rules.specs.Bounded.{Bounded, BoundsAreMet, PartEndsInside, PartIsBounded, RecordIsBounded, WindowDecides, longest}
+use Rattle.text_rules.specs.Bounded.{AnswerIsBounded, Bounded, BoundsAreMet, PartEndsInside, PartIsBounded, RecordIsBounded, WindowDecides, longest, shortest}
 use Rattle.text_rules.specs.RecordText.{lineWritten, recordText}
+use Rattle.text_rules.specs.Sizes.{longestRecord}
 use Rattle.text_rules.specs.Written.{digitCount, lastDigits, writtenNatural, writtenNumber}
 use Rattle.text_rules.proofs.Completed.{part-is-completed}
 use Rattle.text_rules.proofs.More.{refusal-stays, whole-stays}
 use Rattle.text_rules.proofs.RecordText.{read-record-was-written, written-record-is-read}
+use Rattle.text_rules.proofs.Records.{record-fits}
+use Rattle.text_rules.proofs.Size.{answer-long, answer-short}
 
 digits-length : (k n : ℕ) → length (lastDigits k n) ≡ k
 digits-length zero n = refl
@@ -50,7 +54,7 @@ line-short : (name : List ℕ) (z : ℤ) → length (lineWritten name z) ≤ len
 unfolding lineWritten
 line-short name z = simp length-append (omega (arith, number-short z))
 
-text-short : (r : Record) → length (recordText r) ≤ 39
+text-short : (r : Record) → length (recordText r) ≤ longestRecord
 unfolding recordText
 text-short r = simp length-append (omega (arith, line-short (107 ∷ 105 ∷ 110 ∷ 100 ∷ 61 ∷ []) (r .kind), line-short (97 ∷ 61 ∷ []) (r .a), line-short (98 ∷ 61 ∷ []) (r .b), line-short (99 ∷ 61 ∷ []) (r .c)))
 
@@ -59,6 +63,7 @@ record-is-bounded s r n e =
     let w = read-record-was-written s r n e in
     let front : take n s ≡ recordText r = ap (take n) (w .begins) ∙ ap (λ (k : ℕ). take k (recordText r ++ drop n s)) (w .count) ∙ take-append-seam (recordText r) (drop n s) in
     record {
+      least = record-fits s e .0;
       most = omega (arith, w .count, text-short r);
       own = ap recordOf (front ∙ sym (append-nil (recordText r))) ∙ written-record-is-read r [] (w .few) ∙ ap (Whole r) (sym (w .count));
     }
@@ -83,15 +88,19 @@ part-is-bounded s e =
     omega (arith, part-ends-inside s (c .more) (c .numbers) (c .size) e (c .is), record-is-bounded (s ++ c .more) (c .numbers) (c .size) (c .is) .most)
 
 pub window-decides : WindowDecides
-window-decides s = by (recordOf (take 39 s)) refl
+window-decides s = by (recordOf (take longestRecord s)) refl
   where
-    by : (p : Parsed) → recordOf (take 39 s) ≡ p → recordOf (take 39 s) ≡ recordOf s
-    by (Whole r n) e = e ∙ sym (whole-stays (take 39 s) (drop 39 s) e) ∙ ap recordOf (take-append-drop 39 s)
+    by : (p : Parsed) → recordOf (take longestRecord s) ≡ p → recordOf (take longestRecord s) ≡ recordOf s
+    by (Whole r n) e = e ∙ sym (whole-stays (take longestRecord s) (drop longestRecord s) e) ∙ ap recordOf (take-append-drop longestRecord s)
     by Part e =
-        let h : length (take 39 s) ≤ 38 = part-is-bounded (take 39 s) e in
-        ap recordOf (take-all 39 s (omega (arith, length-take 39 s, h)))
-    by Malformed e = e ∙ sym (refusal-stays (take 39 s) (drop 39 s) e) ∙ ap recordOf (take-append-drop 39 s)
+        let h : length (take longestRecord s) ≤ 38 = part-is-bounded (take longestRecord s) e in
+        ap recordOf (take-all longestRecord s (omega (arith, length-take longestRecord s, h)))
+    by Malformed e = e ∙ sym (refusal-stays (take longestRecord s) (drop longestRecord s) e) ∙ ap recordOf (take-append-drop longestRecord s)
+
+pub answer-is-bounded : AnswerIsBounded
+answer-is-bounded code reply alert therm h =
+    record { least = answer-long code reply alert therm; most = answer-short code reply alert therm h }
 
 pub bounds-are-met : BoundsAreMet
-unfolding recordOf lineOf fitOf numberOf plainOf digitsOf longest
-bounds-are-met = record { whole = refl; part = refl }
+unfolding recordOf lineOf fitOf numberOf plainOf digitsOf longest shortest answerText lineText decimalOf
+bounds-are-met = record { least = refl; whole = refl; part = refl; short = refl; long = refl }

@@ -1,4 +1,4 @@
--- A whole record lies within its part, has at least 19 bytes, and its four numbers are small: line by line. Assumes nothing.
+-- A whole record lies within its part, has at least as many bytes as the shortest, and its four numbers are small: line by line. Assumes nothing.
 use Prim.Native.Nat.{ℕ, _+_, _≤_, _<_}
 use native.Mathlib.Omega.{arith}
 use mathlib.Core.Path.{_≡_, refl}
@@ -14,6 +14,7 @@ use Rattle.text_rules.specs.declared.record.Parsed.the-variants.{Whole, 
 use Rattle.text_rules.specs.Names.{kindName, aName, bName, cName}
 use Rattle.text_rules.specs.Line.{lineOf}
 use Rattle.text_rules.specs.Record.{next, recordOf}
+use Rattle.text_rules.specs.Sizes.{shortestRecord}
 use Rattle.text_rules.proofs.Lines.{read-between, read-from}
 
 pub record Small (r : Record) : Type 0 where
@@ -23,7 +24,7 @@ pub record Small (r : Record) : Type 0 where
   pub c : mag (r .c) < 100000
 
 abbrev pub Sized : ℕ → Parsed → Type 0
-Sized most (Whole r n) = (19 ≤ n) × (n ≤ most) × Small r
+Sized most (Whole r n) = (shortestRecord ≤ n) × (n ≤ most) × Small r
 Sized most Part = Unit
 Sized most Malformed = Unit
 
@@ -46,7 +47,7 @@ record-sized s =
     (λ c j h. let w = read-from cName s (n + m + k) (z .1) h in
     (omega arith, w .1, record { kind = x .2; a = y .2; b = z .2; c = w .2 })))))
 
-pub record-fits : (s : List ℕ) {r : Record} {n : ℕ} → recordOf s ≡ Whole r n → (19 ≤ n) × (n ≤ length s)
+pub record-fits : (s : List ℕ) {r : Record} {n : ℕ} → recordOf s ≡ Whole r n → (shortestRecord ≤ n) × (n ≤ length s)
 record-fits s e = let h = rw e at (record-sized s) in (h .0, h .1)
 
 pub record-small : (s : List ℕ) {r : Record} {n : ℕ} → recordOf s ≡ Whole r n → Small r

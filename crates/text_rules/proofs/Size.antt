@@ -9,6 +9,7 @@ use borrow.Author.Tests.{lt-ltb, le-ltb}
 use lib.ListN.{length, length-append}
 use Rattle.text_rules.specs.Names.{codeName, replyName, alertName, thermName}
 use Rattle.text_rules.specs.Answer.{digit, decimalOf, level, lineText, answerText}
+use Rattle.text_rules.specs.Sizes.{longestAnswer, shortestAnswer}
 
 pub decimal-one : (n : ℕ) → n < 10 → decimalOf n ≡ digit n ∷ []
 unfolding decimalOf
@@ -61,15 +62,15 @@ answer-lines code reply alert therm = simp length-append
 pub answer-length : (code reply : ℕ) (alert therm : Bool) → length (answerText code reply alert therm) ≡ 29 + length (decimalOf code) + length (decimalOf reply)
 answer-length code reply alert therm = answer-lines code reply alert therm ∙ rw (line-length codeName code, line-length replyName reply, level-length alertName alert, level-length thermName therm) (omega arith)
 
--- "at most 33 bytes": with a code of one digit, and with a refusal, which replies 0
-pub answer-short : (code reply : ℕ) (alert therm : Bool) → code < 10 → length (answerText code reply alert therm) ≤ 33
+-- at most so long: with a code of one digit, and with a refusal, which replies 0
+pub answer-short : (code reply : ℕ) (alert therm : Bool) → code < 10 → length (answerText code reply alert therm) ≤ longestAnswer
 answer-short code reply alert therm h =
     omega (arith, answer-length code reply alert therm, ap length (decimal-one code h), few-digits reply)
 
-pub refusal-short : (code : ℕ) (alert therm : Bool) → code < 100 → length (answerText code 0 alert therm) ≤ 33
+pub refusal-short : (code : ℕ) (alert therm : Bool) → code < 100 → length (answerText code 0 alert therm) ≤ longestAnswer
 refusal-short code alert therm h = omega (arith, answer-length code 0 alert therm, ap length (decimal-one 0 (omega arith)), few-digits code)
 
--- and at least 31
-pub answer-long : (code reply : ℕ) (alert therm : Bool) → 31 ≤ length (answerText code reply alert therm)
+-- and at least so long
+pub answer-long : (code reply : ℕ) (alert therm : Bool) → shortestAnswer ≤ length (answerText code reply alert therm)
 answer-long code reply alert therm =
     omega (arith, answer-length code reply alert therm, some-digits code, some-digits reply)

@@ -4,6 +4,7 @@ pub mod Number
 pub mod Line
 pub mod Record
 pub mod Answer
+pub mod Sizes
 -- The same in other words: literal texts, and a grammar.
 pub mod RecordCases
 pub mod AnswerCases

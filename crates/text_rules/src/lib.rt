@@ -3,3 +3,4 @@ pub mod answer;
 pub mod line;
 pub mod number;
 pub mod record;
+pub mod sizes;
