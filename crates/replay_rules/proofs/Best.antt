@@ -4,7 +4,7 @@ use native.Mathlib.Nat.{lt-of-mul-lt-mul-left, mul-add, mul-assoc, mul-comm, mul
 use native.Mathlib.Omega.{arith}
 use mathlib.Core.Path.{_≡_, refl, ap, subst, sym, _∙_}
 use mathlib.Core.Bool.{Bool, true, false}
-use mathlib.Core.List.{List, [], _∷_, _++_}
+use mathlib.Core.List.{List, _++_}
 use lib.Dec.{leb}
 use lib.IntN.ℤ.{pos}
 use lib.ListN.{length, length-append}
@@ -18,7 +18,7 @@ use Rattle.text_rules.specs.Record.{recordOf}
 use Rattle.text_rules.specs.Sizes.{longestAnswer, shortestAnswer, shortestRecord}
 use Rattle.text_rules.proofs.More.{whole-stays}
 use Rattle.replay_rules.specs.Alarms.{runAt}
-use Rattle.replay_rules.specs.Best.{HungryNeeds, Needs, NoLowerRate, TooSmall, foundOpen, hungry, repeated, responds, started, taking}
+use Rattle.replay_rules.specs.Best.{HungryNeeds, NoLowerRate, foundOpen, hungry, repeated, responds, started, taking}
 use Rattle.replay_rules.specs.Play.{Run, addedOf, answerTo, begun, ended, runFrom, runOf, textOf, turnOf, went}
 use Rattle.replay_rules.proofs.Examples.{opened}
 use Rattle.replay_rules.proofs.Plays.{at-end}

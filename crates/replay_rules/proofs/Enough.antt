@@ -1,17 +1,16 @@
 -- The bound, of the entry that C calls: it refuses at once, or is a run. Assumes nothing.
-use Prim.Native.Nat.{ℕ, _*_, _/_, _≤_, _<_}
+use Prim.Native.Nat.{ℕ, _*_, _/_, _≤_}
 use native.Mathlib.Omega.{arith}
 use mathlib.Core.Path.{_≡_, refl, ap, sym, _∙_}
-use mathlib.Core.Logic.{_⊎_, inl, inr, ⊎-elim}
+use mathlib.Core.Logic.{inl, inr, ⊎-elim}
 use mathlib.Core.Bool.{Bool, cond, true, false}
 use mathlib.Core.List.{List}
 use lib.IntN.{ℤ, natAbs}
 use lib.IntN.ℤ.{pos}
 use lib.ListN.{length, replicate, length-replicate}
 use Rattle.rules.specs.PowerOn.{madeOf}
-use Rattle.text_rules.specs.Sizes.{shortestRecord}
-use Rattle.replay_rules.specs.Best.{hungry, taking}
-use Rattle.replay_rules.specs.Enough.{Bound, EachIsBest, EntryBound, EntryTaken, RoomyMeans, longestRoomy}
+use Rattle.replay_rules.specs.Best.{hungry}
+use Rattle.replay_rules.specs.Enough.{Bound, EachIsBest, EntryBound, EntryTaken, RoomyMeans}
 use Rattle.replay_rules.specs.Play.{Run, runOf}
 use Rattle.replay_rules.specs.Replay.{Replayed, Result, played, refusedAtOnce, replayFrom, replayOf, reportOf, untouched, wordAt}
 use Rattle.replay_rules.specs.Room.{roomOf}

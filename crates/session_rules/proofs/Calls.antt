@@ -261,7 +261,7 @@ room-enough s c h e =
 -- ---- A trace that is cut ----
 
 -- no more is taken than was offered
-pub inside : (s : Session) (c : Call) → fed s c .taken ≤ length (c .portion)
+inside : (s : Session) (c : Call) → fed s c .taken ≤ length (c .portion)
 inside s c = by (given s (c .portion) (c .end) (c .room))
   where
     by : {f : Feed} → Given s (c .portion) (c .end) (c .room) f → f .taken ≤ length (c .portion)

@@ -1,39 +1,38 @@
 -- A session into one output: by the invariant of a session that calls have reached, and by its bytes. Assumes nothing.
-use Prim.Native.Nat.{ℕ, _+_, _*_, _-_, _/_, _≤_, _<_}
+use Prim.Native.Nat.{ℕ, _+_, _/_, _≤_, _<_}
 use native.Mathlib.Nat.{zero-add}
 use native.Mathlib.Omega.{arith}
 use mathlib.Core.Path.{_≡_, refl, sym, ap, subst, _∙_}
-use mathlib.Core.Logic.{_⊎_, inl, inr}
+use mathlib.Core.Logic.{inl, inr}
 use mathlib.Core.Bool.{Bool, cond, true, false, _&&_}
 use mathlib.Core.List.{List, [], _∷_, _++_, map}
 use lib.Dec.{eqb}
 use lib.IntN.{ℤ, natAbs}
-use lib.IntN.ℤ.{pos}
 use lib.ListN.{drop, length, replicate, take, length-append, length-drop, length-take}
 use lib.Seq.{drop-append-seam}
-use borrow.Author.Tests.{eq-eqb, eqb-true, ne-eqb}
+use borrow.Author.Tests.{eq-eqb, eqb-true}
 use Rattle.rules.specs.declared.state.State.{State}
 use Rattle.rules.specs.PowerOn.{madeOf}
 use Rattle.rules.proofs.Lists.{no}
-use Rattle.text_rules.specs.Sizes.{longestAnswer, shortestRecord}
+use Rattle.text_rules.specs.Sizes.{shortestRecord}
 use Rattle.replay_rules.specs.Play.{runOf}
 use Rattle.replay_rules.specs.Replay.{word, wordAt}
 use Rattle.replay_rules.specs.Room.{roomOf}
 use Rattle.replay_rules.proofs.Words.{word-back, word-below}
 use Rattle.session_rules.specs.declared.session.Session.{Session}
-use Rattle.session_rules.specs.Session.{carriedOf, isSession, openedOf}
+use Rattle.session_rules.specs.Session.{carriedOf, openedOf}
 use Rattle.session_rules.specs.Portion.{Feed, feedOf, refusedWith, reportAfter}
 use Rattle.session_rules.specs.Bytes.{bytesOf, heldIn, isHeld}
-use Rattle.session_rules.specs.Calls.{Call, fed, sessionAfter, sessionAt, takenAfter}
-use Rattle.session_rules.specs.Face.{Feeding, Opening, fedInto, feedInto, isEnd, isFlag, nothing, openOf, openingFrom}
+use Rattle.session_rules.specs.Calls.{Call, fed, takenAfter}
+use Rattle.session_rules.specs.Face.{Feeding, Opening, fedInto, feedInto, isEnd, isFlag, nothing, openOf}
 use Rattle.session_rules.specs.OneOutput.{Brought, FeedNoEight, FewRecords, Hand, IntoOne, NextCall, StillEnough, behindIt, handAfter, handAt, handed, offered}
-use Rattle.session_rules.proofs.Calls.{eight, inside, room-enough}
+use Rattle.session_rules.proofs.Calls.{eight, room-enough}
 use Rattle.session_rules.proofs.Course.{course}
 use Rattle.session_rules.proofs.Courses.{sizes}
 use Rattle.session_rules.proofs.Held.{size-bytes}
 use Rattle.session_rules.proofs.InBytes.{held-is-saved, session-is-held, zeros-are-none}
 use Rattle.session_rules.proofs.Reached.{Reached, fed-reached, opened-reached, reached, taken-size}
-use Rattle.session_rules.proofs.Sessions.{Given, Held, carried-size, given, held, is-held}
+use Rattle.session_rules.proofs.Sessions.{Given, carried-size, given, held, is-held}
 use Rattle.session_rules.proofs.Sessions.Given.{Refused, Looked}
 use Rattle.session_rules.proofs.Ways.{moved}
 
