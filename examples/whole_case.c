@@ -16,7 +16,7 @@ static uint32_t word(const uint8_t *bytes)
 
 int main(void)
 {
-    uint8_t output[DLAVETH_ANSWER_BYTES * (sizeof trace / DLAVETH_RECORD_BYTES)];
+    uint8_t output[DLAVETH_ROOM(sizeof trace)];
     uint8_t report[DLAVETH_REPORT_BYTES];
 
     int32_t code = replay(76, (const uint8_t *)trace, strlen(trace), output, sizeof output, report, sizeof report);

@@ -92,9 +92,19 @@ enum {
     DLAVETH_REPORT_BYTES = 16,      /* the report's length */
     DLAVETH_MOST_BYTES = 16777216,  /* the longest trace, and the longest output: 16 MiB */
     DLAVETH_RECORD_BYTES = 19,      /* the shortest record */
-    DLAVETH_ANSWER_BYTES = 33       /* the longest answer: room of 33 * (trace_len / 19) is enough for any trace of
-                                       that length, up to 9659618 bytes; beyond, that would be more than 16 MiB */
+    DLAVETH_ANSWER_BYTES = 33       /* the longest answer */
 };
+
+/*
+ * How large an output has to be: with DLAVETH_ROOM(n) bytes or more no trace of n bytes is stopped by code 8, whatever stands in it. It has
+ * at most n / 19 records, each answered with at most 33 bytes; fewer for each record would be too few for some trace. With a constant n
+ * it is a constant. Under 19 bytes it is 0, since no record is so short.
+ *
+ * An output that replay takes has at most 16 MiB, so this serves it up to 9659618 bytes of trace. Where DLAVETH_ROOM(n) is more than
+ * DLAVETH_MOST_BYTES, hand the whole trace to a session instead, in one call with end 1 and so much output, which has no limit there
+ * (examples/room.c does so); or feed it in portions, and use a small output again and again.
+ */
+#define DLAVETH_ROOM(n) ((size_t)(n) / DLAVETH_RECORD_BYTES * DLAVETH_ANSWER_BYTES)
 
 /*
  * Replays a trace on a chip that was just powered on.
@@ -103,9 +113,10 @@ enum {
  * trace       trace_len bytes: records one behind the other. A record is four lines, kind=, a=, b= and c=, each with a decimal number of 1
  *             to 5 digits (a minus before it where negative; no plus, no leading zero, no -0, no space) and ended by byte 10.
  *             It is only read. kind, a, b and c are an event's, above; a number has 5 digits at most.
- * output      output_len bytes for the answers, one behind the other from the first byte. An answer is four lines, code=, reply=, alert= and
- *             therm=, each ended by byte 10; 1 means that the line is high, and alert is pin 6, as above. No byte behind the last answer
- *             is touched, and none after the text is written (no zero byte ends it): its length is in the report.
+ * output      output_len bytes for the answers, one behind the other from the first byte; DLAVETH_ROOM(trace_len) bytes are enough for any
+ *             trace. An answer is four lines, code=, reply=, alert= and therm=, each ended by byte 10; 1 means that the line is high, and
+ *             alert is pin 6, as above. No byte behind the last answer is touched, and none after the text is written (no zero byte ends
+ *             it): its length is in the report.
  * report      report_len bytes, which must be 16: code, records answered, trace bytes used, output bytes written, each a number of 4
  *             bytes, low byte first.
  *
@@ -130,7 +141,8 @@ int32_t replay(int32_t address,
 
 enum {
     DLAVETH_SESSION_BYTES = 256,    /* a session */
-    DLAVETH_PROGRESS_BYTES = 8      /* the progress of one portion */
+    DLAVETH_PROGRESS_BYTES = 8,     /* the progress of one portion */
+    DLAVETH_CARRIED_BYTES = 38      /* the most that is carried over to the next portion */
 };
 
 /*
@@ -178,9 +190,11 @@ int32_t dlaveth_open(int32_t address, uint8_t *session, size_t session_len);
  * taken. Where a record is both malformed and without room, the code is 7.
  *
  * After 8 come back with room, the bytes not taken and, behind them, more of the trace if you have it: no answer is lost, and none is given
- * twice. Any room of 33 bytes or more goes on, and 33 * ((38 + portion_len) / 19) is enough to have no 8. At the end of the trace declare
- * it, with the last portion or with an empty one: only then is a partial record refused. An end that came with 8 is declared again with the
- * bytes that are left. Behind an end that gave 0 an empty portion is code 0 and changes nothing; behind one that gave 7 it is 7.
+ * twice. Any room of 33 bytes or more goes on. To have no 8 at all, lend DLAVETH_ROOM(DLAVETH_CARRIED_BYTES + portion_len) bytes in each
+ * call; or one output of DLAVETH_ROOM(n) bytes for the whole session, each time from where the answers so far end, n being the bytes of all
+ * portions, this one too. At the end of the trace declare it, with the last portion or with an empty one: only then is a partial record
+ * refused. An end that came with 8 is declared again with the bytes that are left. Behind an end that gave 0 an empty portion is code 0 and
+ * changes nothing; behind one that gave 7 it is 7.
  *
  * After 8 an empty portion does not fetch the answer that waits: it is code 0, or with end 1 the end of the trace where the bytes taken end.
  * The first 7 writes report and progress, a repeated one does not: have progress 0 before a call, as below, and both read alike.

@@ -56,6 +56,29 @@ static void refusals(void)
     check("a report of 17 bytes", replay(76, record, RECORD, output, sizeof output, report, 17) == 2 && all(report, 16, 0xAA));
 }
 
+/* DLAVETH_ROOM: 33 for each full 19, a constant; with that much no code 8, and less for the trace that needs the most is 8. */
+static void rooms(void)
+{
+    static const uint8_t texts[][RECORD + 1] = {"kind=6\na=0\nb=0\nc=0\n", "kind=7\na=0\nb=0\nc=1\n", "kind=5\na=0\nb=0\nc=0\n"};
+    static const size_t lengths[] = {0, 18, 19, 37, 38, 380, 9659618, 9659619, DLAVETH_MOST_BYTES};
+    static const size_t wanted[] = {0, 0, 33, 33, 66, 660, 16777200, 16777233, 29139363};
+    enum { RECORDS = 20, TRACE = RECORDS * RECORD };
+    uint8_t trace[TRACE], output[DLAVETH_ROOM(TRACE)], report[16];
+
+    for (size_t i = 0; i < sizeof lengths / sizeof *lengths; i++)
+        check("DLAVETH_ROOM", DLAVETH_ROOM(lengths[i]) == wanted[i]);
+    check("its argument may be any expression, also one that is no size_t", DLAVETH_ROOM(RECORD + RECORD) == 66 && DLAVETH_ROOM((uint8_t)255) == 429);
+    for (int i = 0; i < RECORDS; i++)
+        memcpy(trace + i * RECORD, texts[i < 2 ? i : 2], RECORD);
+    for (size_t length = 0; length <= TRACE; length++) {
+        const int32_t code = replay(76, trace, length, output, DLAVETH_ROOM(length), report, 16);
+        check("with DLAVETH_ROOM a trace cut anywhere is never 8", code == (length % RECORD == 0 ? DLAVETH_DONE : DLAVETH_MALFORMED));
+        check("records are the length divided by 19", report[4] == length / DLAVETH_RECORD_BYTES && all(report + 5, 3, 0));
+    }
+    check("32 for each 19 is 8", replay(76, trace, TRACE, output, 32 * (TRACE / 19), report, 16) == DLAVETH_NO_ROOM);
+    check("33 for each 20 is 8", replay(76, trace, TRACE, output, 33 * (TRACE / 20), report, 16) == DLAVETH_NO_ROOM);
+}
+
 /* One trace at address 76 and 77 in turn: the answers differ, so that a shared state would show. */
 static const uint8_t reads[] = "kind=6\na=0\nb=0\nc=0\nkind=7\na=20\nb=341\nc=0\nkind=3\na=76\nb=2\nc=0\n";
 enum { READS = sizeof reads - 1, TIMES = 2000 };
@@ -97,6 +120,7 @@ int main(void)
 {
     nulls();
     refusals();
+    rooms();
     threads();
     printf("%d passed, %d failed\n", passed, failed);
     return failed != 0;

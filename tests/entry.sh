@@ -1,5 +1,5 @@
 #!/usr/bin/env bash
-# The C entry as a C program meets it: the example with header and library alone, the header in C++, and tests/entry.c. The last line is 'N passed, 0 failed'.
+# The C entry as a C program meets it: two examples with header and library alone, the header in C++, and tests/entry.c. The last line is 'N passed, 0 failed'.
 set -euo pipefail
 cd "$(dirname "$0")/.."
 . tools/x86.sh
@@ -21,10 +21,15 @@ code 0: 3 records, 61 bytes of trace, 94 bytes of answers'
 got=$(examples/run.sh whole_case)
 [[ $got == "$wanted" ]] || { echo "FAILED: the example wrote"; echo "$got"; exit 1; }
 
+wanted='380 bytes of trace, room for 660 of answers: code 0, 20 records, 656 bytes of answers
+16777209 bytes of trace, room for 29139363 of answers: code 0, 883011 records, 29139359 bytes of answers'
+got=$(examples/run.sh room)
+[[ $got == "$wanted" ]] || { echo "FAILED: the example of room wrote"; echo "$got"; exit 1; }
+
 g++ -Wall -Wextra -Wpedantic -Werror -fsyntax-only -x c++ include/dlaveth.h
 
 mkdir -p target/tests
 "${x86_cc[@]}" -std=c11 -Wall -Wextra -Wpedantic -Wconversion -O1 -Iinclude tests/entry.c "$x86_library" -pthread -o target/tests/entry
 got=$("${x86_run[@]}" target/tests/entry) || { echo "$got"; exit 1; }
 [[ $got =~ ([0-9]+)\ passed,\ 0\ failed$ ]]
-echo "$((BASH_REMATCH[1] + 2)) passed, 0 failed"
+echo "$((BASH_REMATCH[1] + 3)) passed, 0 failed"

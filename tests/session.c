@@ -53,11 +53,18 @@ static const char *const texts[] = {
 
 typedef enum { WITH_LAST, BY_EMPTY, NEVER, ENDS } end_way;
 
+/* The room that is said to be enough, and no more: of one call; or what is left of one output for all that was offered so far. */
+static size_t enough(const run *r, bool one, size_t portion, size_t offered)
+{
+    return one ? DLAVETH_ROOM(offered) - r->len : DLAVETH_ROOM(DLAVETH_CARRIED_BYTES + portion);
+}
+
 /* Feeds the text cut at `cuts`, which rise, with room enough; then a portion more, of a record and of nothing. */
 static void cut(const char *what, int32_t address, const uint8_t *text, size_t len, const size_t *cuts, size_t count, end_way way, bool empties,
                 const whole *w)
 {
     static run r;
+    const bool one = any(2);
     size_t at = 0;
 
     begin(&r, address);
@@ -66,7 +73,7 @@ static void cut(const char *what, int32_t address, const uint8_t *text, size_t l
 
         if (empties)
             go(what, &r, text, 0, 0, any(2) * AMPLE);
-        go(what, &r, text + at, to - at, i == count && way == WITH_LAST, 33 * ((to - at) / 19 + 3));
+        go(what, &r, text + at, to - at, i == count && way == WITH_LAST, enough(&r, one, to - at, to));
         at = to;
     }
     if (way == BY_EMPTY)
@@ -176,7 +183,7 @@ static void come_back(run *r, const uint8_t *text, size_t at, size_t len, size_t
         break;
     default:
         for (; at + 1 < len; at += t.taken)
-            t = go("byte by byte, behind 8", r, text + at, 1, 0, 33);
+            t = go("byte by byte, behind 8", r, text + at, 1, 0, DLAVETH_ANSWER_BYTES);
         break;
     }
     go("more room, and the end", r, text + at, len - at, 1, AMPLE);
@@ -700,22 +707,33 @@ static size_t some_room(void)
     return any(4) ? often[any(COUNT(often))] : any(200);
 }
 
-/* Feeds all of the trace, or all up to an end declared too early; until then some rooms are too small. Gives how much was offered. */
+static unsigned long into_one, most_records;
+
+/* Feeds all of the trace, or all up to an end declared too early; until then some rooms are too small, unless it is into one output. Gives how
+   much was offered. */
 static size_t feed_at_random(run *r, const trace *t)
 {
     const size_t most[] = { 1, 3, 20, 40, 100, t->len + 1 }, usual = most[any(COUNT(most))];
-    const bool early = any(10) == 0;
-    size_t at = 0;
+    const bool early = any(10) == 0, one = any(2);
+    size_t at = 0, offered = 0;
 
     while (!r->bytes[SESSION_ENDED] && !r->bytes[SESSION_STOPPED]) {
-        size_t left = t->len - at, len = any(8) == 0 ? 0 : 1 + any((uint32_t)usual), room = any(3) ? 33 * (usual / 19 + 3) : some_room();
+        size_t left = t->len - at, len = any(8) == 0 ? 0 : 1 + any((uint32_t)usual), room;
         told told_now;
         int32_t end;
 
         if (len > left)
             len = left;
+        offered += len;
+        room = one || any(3) ? enough(r, one, len, offered) : some_room();
         end = (len == left ? any(2) : early ? any(20) : 1) == 0;
         told_now = go("random portions", r, t->bytes + at, len, end, room);
+        check("no more records than was offered for", session_word(told_now.report + 4) <= offered / DLAVETH_RECORD_BYTES);
+        if (one) {
+            check("one output: never 8", told_now.code != 8);
+            into_one++;
+            most_records += session_word(told_now.report + 4) == offered / DLAVETH_RECORD_BYTES;
+        }
         if (told_now.code == 7)
             return at + len;
         at += told_now.taken;
@@ -747,6 +765,7 @@ static void at_random(unsigned long traces)
         trace_free(&t);
     }
     check("random traces ended well and with 7, and too early", by_code[0] > traces / 4 && by_code[1] > traces / 8 && cut_short > traces / 100);
+    check("calls into one output, some with as many records as can be", into_one > traces && most_records > traces / 2);
 }
 
 /* ---- 16 MiB ---- */
@@ -760,7 +779,7 @@ static const char *const shortest[] = {
 static void large(void)
 {
     enum { PORTION = 4096 };
-    const uint32_t records = MOST / 19, answers = 31 * records;
+    const uint32_t records = MOST / DLAVETH_RECORD_BYTES, answers = 31 * records;
     uint8_t *text = malloc(MOST), *joined = malloc(answers), s[SESSION];
     size_t len = 0;
     told t;
@@ -772,7 +791,7 @@ static void large(void)
     memcpy(text + 19 * (size_t)records, "kind=6\n", 7);
     dlaveth_open(76, s, SESSION);
     for (size_t at = 0; at < MOST; at += PORTION) {
-        t = feed("16 MiB in portions", s, text + at, PORTION, 0, 33 * (PORTION / 19 + 1));
+        t = feed("16 MiB in portions", s, text + at, PORTION, 0, DLAVETH_ROOM(DLAVETH_CARRIED_BYTES + PORTION));
         check("16 MiB in portions: all is taken", t.code == 0 && t.taken == PORTION);
         if (len + t.written <= answers)
             memcpy(joined + len, t.output, t.written);
@@ -791,6 +810,39 @@ static void large(void)
     gives("the last record", s, text + 19 * (size_t)(records - 1), 19, 1, 31, 0, 19, 31);
     free(text);
     free(joined);
+}
+
+/* The trace that needs the most, 16 MiB of it, into one output: four bytes of what is enough are left. With 32 bytes for each full 19, or 33 for each
+   full 20, it is stopped by 8. */
+static void hungry(void)
+{
+    enum { PORTION = 100000 };
+    static const char *const texts[] = { RECORD(6, 0, 0, 0), RECORD(7, 0, 0, 1), RECORD(5, 0, 0, 0) };
+    const uint32_t records = MOST / DLAVETH_RECORD_BYTES, answers = 2 * 31 + (records - 2) * DLAVETH_ANSWER_BYTES, length = records * 19;
+    const size_t smaller[] = { 32 * (size_t)(length / 19), 33 * (size_t)(length / 20), answers - 1 };
+    uint8_t *text = malloc(MOST), s[SESSION];
+    size_t written = 0;
+    told t;
+
+    if (text == NULL)
+        exit(1);
+    for (size_t i = 0; i < records; i++)
+        memcpy(text + i * 19, texts[i < 2 ? i : 2], 19);
+    dlaveth_open(76, s, SESSION);
+    for (size_t at = 0, to; at < length; at = to) {
+        to = length - at < PORTION ? length : at + PORTION;
+        t = feed("hungry, in portions", s, text + at, to - at, to == length, DLAVETH_ROOM(to) - written);
+        check("hungry, in portions: all is taken", t.code == 0 && t.taken == to - at);
+        written += t.written;
+    }
+    check("hungry: four bytes are left", written == answers && DLAVETH_ROOM(length) == answers + 4);
+    dlaveth_open(76, s, SESSION);
+    gives("hungry, in one portion", s, text, length, 1, DLAVETH_ROOM(length), 0, length, answers);
+    for (size_t i = 0; i < COUNT(smaller); i++) {
+        dlaveth_open(76, s, SESSION);
+        check("hungry, less room", feed("hungry, less room", s, text, length, 1, smaller[i]).code == 8);
+    }
+    free(text);
 }
 
 /* ---- recorded traces and sessions ---- */
@@ -847,6 +899,7 @@ int main(int argc, char **argv)
     partials();
     at_random(traces);
     large();
+    hungry();
     whole_traces = recorded_traces(argv[1], cut_recorded);
     sessions = recorded_sessions(argv[1], run_recorded);
     check("there are recorded sessions", sessions > 0 && whole_traces > 0);

@@ -121,14 +121,14 @@ static int32_t next_number(const uint8_t **at)
 
 void whole_of(whole *w, int32_t address, const uint8_t *trace, size_t len)
 {
-    size_t room = 33 * (len / 19) + 1;
+    size_t room = DLAVETH_ROOM(len);
     uint8_t answer[DLAVETH_EVENT_ANSWER_BYTES];
     const uint8_t *at = trace;
 
-    if (w->room < room) {
+    if (w->room <= room) {
         free(w->output);
-        w->output = malloc(room);
-        w->room = room;
+        w->output = malloc(room + 1);
+        w->room = room + 1;
         if (w->output == NULL)
             exit(1);
     }

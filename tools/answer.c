@@ -23,7 +23,7 @@
 #include <unistd.h>
 
 enum { FAILED = 1, MISCALLED = 2, LINES = 4, SHOWN_BYTES = 40 };
-enum { CARRIED_BYTES = 38, PORTION_BYTES = 65536, LOOKED_AT_BYTES = 128 };    /* the last: more than a record and what is shown of a line */
+enum { PORTION_BYTES = 65536, LOOKED_AT_BYTES = 128 };    /* the last: more than a record and what is shown of a line */
 
 static const char *const line_names[LINES] = {RECORD_LINES};
 
@@ -220,8 +220,8 @@ static int stopped(const char *name, int file, uint8_t *rest, size_t length, int
 
 static int answer(int32_t address, const char *name, int file, const char *out, int answers)
 {
-    static uint8_t text[CARRIED_BYTES + PORTION_BYTES + LOOKED_AT_BYTES];    /* from the record on that is not answered yet */
-    static uint8_t output[PORTION_BYTES];
+    static uint8_t text[DLAVETH_CARRIED_BYTES + PORTION_BYTES + LOOKED_AT_BYTES];    /* from the record on that is not answered yet */
+    static uint8_t output[DLAVETH_ROOM(DLAVETH_CARRIED_BYTES + PORTION_BYTES)];      /* room for all answers to one portion */
     uint8_t session[DLAVETH_SESSION_BYTES], report[DLAVETH_REPORT_BYTES] = {0};
     size_t carried = 0, over = 0;    /* over: a byte too many was read */
     int32_t code = dlaveth_open(address, session, sizeof session);
@@ -235,18 +235,15 @@ static int answer(int32_t address, const char *name, int file, const char *out, 
             return fail("%s: %s", name, strerror(errno));
         ended = more == 0;
         over = (size_t)more > left;
-        size_t at = carried, length = carried + (size_t)more - over;
-        do {
-            uint8_t progress[DLAVETH_PROGRESS_BYTES] = {0};    /* a refusal leaves it so */
-            code = dlaveth_feed(session, sizeof session, text + at, length - at, ended, output, sizeof output, report, sizeof report,
-                                progress, sizeof progress);
-            if (put(answers, output, number(progress + 4)) != 0)
-                return fail("%s: %s", out, strerror(errno));
-            now.records = number(report + 4);
-            now.used = number(report + 8);
-            at += number(progress);
-        } while (code == DLAVETH_NO_ROOM);
-        carried = length - (now.used - from);
+        const size_t portion = (size_t)more - over;
+        uint8_t progress[DLAVETH_PROGRESS_BYTES] = {0};    /* a refusal leaves it so */
+        code = dlaveth_feed(session, sizeof session, text + carried, portion, ended, output, sizeof output, report, sizeof report,
+                            progress, sizeof progress);
+        if (put(answers, output, number(progress + 4)) != 0)
+            return fail("%s: %s", out, strerror(errno));
+        now.records = number(report + 4);
+        now.used = number(report + 8);
+        carried = carried + portion - (now.used - from);
         memmove(text, text + (now.used - from), carried + over);
     }
     if (code == DLAVETH_MALFORMED)

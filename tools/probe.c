@@ -67,7 +67,7 @@ int main(int count, char **words)
         tail_length += (size_t)snprintf(tail + tail_length, READ_BYTES, "%s3\n%s%d\n%s%d\n%s0\n", record_lines[0], record_lines[1], address,
                                         record_lines[2], atoi(words[2 + i]), record_lines[3]);
 
-    size_t room = (length + tail_length) / DLAVETH_RECORD_BYTES * DLAVETH_ANSWER_BYTES;
+    size_t room = DLAVETH_ROOM(length + tail_length);
     char *output = malloc(room + 1);
     if (!output)
         return fail("no memory");
