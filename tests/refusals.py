@@ -29,10 +29,10 @@ def unfit(log, at=()):
 SAYING = {
     "rules": ["Tables", "PinCases", "Meant", "Forms", "Answered", "Therm", "Steps", "Status", "Alarm", "Assured", "Commands", "Kept", "Rows", "Judged", "Ended", "Left"],
     "text_rules": ["Tables", "Written", "Begins", "RecordText", "AnswerText", "Completed", "Bounded", "PutCases"],
-    "replay_rules": ["Examples", "ReplayCases", "Meant", "Alarms", "Consumed", "Room"],
+    "replay_rules": ["Examples", "ReplayCases", "Meant", "Alarms", "Consumed", "Room", "Best", "Enough"],
     "console_rules": ["Examples", "Texts"],
     "saved_rules": ["FaceCases", "Saved"],
-    "session_rules": ["Calls", "Portions", "InBytes", "SessionCases"],
+    "session_rules": ["Calls", "Portions", "InBytes", "OneOutput", "SessionCases"],
 }
 
 

@@ -175,5 +175,5 @@ no-lower-rate answer each besides h =
     let needs = hungry-needs n in
     record {
       trace = hungry n;
-      stopped = needs .eight _ (subst (λ (x : ℕ). answer * (x / each) + besides < taking n) (sym (needs .size)) (falls-behind answer each besides h));
+      stopped = needs .eight _ (subst (λ (x : ℕ). answer * (x / each) + besides < taking n) (sym (needs .size)) (falls-behind answer each besides (omega (arith, h))));
     }

@@ -15,17 +15,20 @@ use Rattle.rules.specs.declared.state.State.{State}
 use Rattle.rules.specs.PowerOn.{madeOf}
 use Rattle.rules.proofs.Lists.{no}
 use Rattle.text_rules.specs.Sizes.{shortestRecord}
-use Rattle.replay_rules.specs.Play.{runOf}
+use Rattle.saved_rules.specs.Layout.{frontOf, sameBytes, saveOf, stateAt}
+use Rattle.replay_rules.specs.Best.{foundOpen, started}
+use Rattle.replay_rules.specs.Play.{runFrom, runOf}
 use Rattle.replay_rules.specs.Replay.{word, wordAt}
 use Rattle.replay_rules.specs.Room.{roomOf}
+use Rattle.replay_rules.proofs.Examples as examples
 use Rattle.replay_rules.proofs.Words.{word-back, word-below}
 use Rattle.session_rules.specs.declared.session.Session.{Session}
-use Rattle.session_rules.specs.Session.{carriedOf, openedOf}
+use Rattle.session_rules.specs.Session.{carriedOf, isSession, openedOf, partial}
 use Rattle.session_rules.specs.Portion.{Feed, feedOf, refusedWith, reportAfter}
-use Rattle.session_rules.specs.Bytes.{bytesOf, heldIn, isHeld}
+use Rattle.session_rules.specs.Bytes.{bytesOf, headOf, heldIn, isHeld}
 use Rattle.session_rules.specs.Calls.{Call, fed, takenAfter}
 use Rattle.session_rules.specs.Face.{Feeding, Opening, fedInto, feedInto, isEnd, isFlag, nothing, openOf}
-use Rattle.session_rules.specs.OneOutput.{Brought, FeedNoEight, FewRecords, Hand, IntoOne, NextCall, StillEnough, behindIt, handAfter, handAt, handed, offered}
+use Rattle.session_rules.specs.OneOutput.{Brought, FeedNoEight, FewRecords, Hand, HandsMean, IntoOne, NextCall, StillEnough, behindIt, fourCalls, handAfter, handAt, handed, offered}
 use Rattle.session_rules.proofs.Calls.{eight, room-enough}
 use Rattle.session_rules.proofs.Course.{course}
 use Rattle.session_rules.proofs.Courses.{sizes}
@@ -210,3 +213,7 @@ into-one address session output bs b =
     let h = handAfter (handAt address session output) bs in
     let st : Stands from all (length output) h = subst (λ (n : ℕ). Stands from n (length output) h) (zero-add all) (stands-after bs (opens address session output)) in
     next from all (length output) h b st .0
+
+pub hands-mean : HandsMean
+unfolding examples.opened bytesOf feedInto feedOf foundOpen fourCalls frontOf handAfter headOf heldIn isHeld isSession offered openOf openedOf partial refusedWith reportAfter runFrom runOf sameBytes saveOf started stateAt
+hands-mean = record { left = refl; offers = refl }

@@ -6,9 +6,10 @@ use mathlib.Core.Logic.{_⊎_}
 use mathlib.Core.List.{List, [], _∷_, map}
 use lib.IntN.{ℤ}
 use lib.IntN.ℤ.{pos}
-use lib.ListN.{drop, length, replicate}
+use lib.ListN.{drop, length, replicate, take}
 use Rattle.rules.specs.PowerOn.{madeOf}
 use Rattle.text_rules.specs.Sizes.{shortestRecord}
+use Rattle.replay_rules.specs.Best.{foundOpen, started}
 use Rattle.replay_rules.specs.Replay.{wordAt}
 use Rattle.replay_rules.specs.Room.{roomOf}
 use Rattle.session_rules.specs.declared.session.Session.{Session}
@@ -82,3 +83,18 @@ abbrev pub IntoOne : Type 0
 IntoOne =
     (address : ℤ) (session output : List ℕ) (bs : List Brought) (b : Brought)
     → NextCall (offered (map (λ x. x .portion) bs) + length (b .portion)) (length output) b (handed (handAfter (handAt address session output) bs) b)
+
+-- by hand: a record; the front of another, which is refused for its report and comes again; its rest. After each, how much is left of 99 bytes, and
+-- how much was offered
+abbrev brings : ℕ → List ℕ → Brought
+brings report portion = record { portion = portion; end = pos 0; report = replicate report 0 }
+
+unfoldable pub fourCalls : List Brought
+fourCalls = brings 16 started ∷ brings 15 (take 10 foundOpen) ∷ brings 16 (take 10 foundOpen) ∷ brings 16 (drop 10 foundOpen) ∷ []
+
+pub record Hands (bs : List Brought) (steps : List ℕ) : Type 0 where
+  pub left : map (λ n. length (handAfter (handAt (pos 76) (replicate 256 5) (replicate 99 7)) (take n bs) .left)) steps ≡ 99 ∷ 68 ∷ 68 ∷ 68 ∷ 37 ∷ []
+  pub offers : map (λ n. offered (map (λ x. x .portion) (take n bs))) steps ≡ 0 ∷ 19 ∷ 29 ∷ 39 ∷ 48 ∷ []
+
+abbrev pub HandsMean : Type 0
+HandsMean = Hands fourCalls (0 ∷ 1 ∷ 2 ∷ 3 ∷ 4 ∷ [])
