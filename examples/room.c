@@ -37,7 +37,7 @@ static int show(size_t records)
             memcpy(trace + i * DLAVETH_RECORD_BYTES, texts[i < 2 ? i : 2], DLAVETH_RECORD_BYTES);
         code = answer(trace, length, output, report);
     }
-    printf("%zu bytes of trace, room for %zu of answers: code %d, %u records, %u bytes of answers\n", length, DLAVETH_ROOM(length), (int)code,
+    printf("%zu bytes of trace, room %zu: code %d, %u records, %u bytes of answers\n", length, DLAVETH_ROOM(length), (int)code,
            (unsigned)number(report + 4), (unsigned)number(report + 12));
     free(trace);
     free(output);

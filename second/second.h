@@ -1,8 +1,8 @@
 /*
  * second.h - an independent second model of one ADT7461, written from
  * document 01, with document 02's Item 3 in place of its line on the open
- * diode and Item 4 in place of its line on pin 6 as THERM2, alone and
- * compared byte by byte with the first one.
+ * diode, Item 4 in place of its line on pin 6 as THERM2 and Item 5 beside
+ * its lines on the replay, alone and compared byte by byte with the first one.
  *
  * The chip is a file of byte registers, as the part has them, and a few
  * latches and marks. Nothing is allocated; a chip may be copied with =.
@@ -30,6 +30,12 @@ enum {
     SECOND_REGISTERS = 0x23,           /* size of the register file, read addresses 00..22 */
     SECOND_MOST_BYTES = 16777216,      /* longest trace, and longest output: 16 MiB */
     SECOND_REPORT_BYTES = 16           /* length of a replay's report */
+};
+
+/* The two numbers of Item 5: no record is shorter, no answer longer. They stand only here. */
+enum {
+    SECOND_SHORTEST_RECORD = 19,
+    SECOND_LONGEST_ANSWER = 33
 };
 
 /*
@@ -84,11 +90,21 @@ second_answer second_step(second_chip *chip, int32_t kind, int32_t a, int32_t b,
  * untouched, and the report holds code, records answered, trace bytes used
  * and output bytes written, each 4 bytes, low byte first. Returns the code.
  * trace and output may be null where their length is 0.
+ * Code 8 is never given if output_len is at least second_room(trace_len), and
+ * the records answered are never more than trace_len / SECOND_SHORTEST_RECORD.
  */
 int32_t second_replay(int32_t address,
                       const uint8_t *trace, size_t trace_len,
                       uint8_t *output, size_t output_len,
                       uint8_t *report, size_t report_len);
+
+/*
+ * The output bytes that are enough for a trace of trace_len bytes, whatever
+ * they are (Item 5): SECOND_LONGEST_ANSWER for each full SECOND_SHORTEST_RECORD
+ * of them; SIZE_MAX where a size_t can't hold that. For a long trace it passes
+ * SECOND_MOST_BYTES, and then no replay takes so large an output.
+ */
+size_t second_room(size_t trace_len);
 
 /*
  * Coverage counters. The model only ever adds to second_seen_counts; the

@@ -59,8 +59,12 @@ static size_t read_record(const uint8_t *rest, size_t len, second_record *event)
 
 /* ---- writing ---- */
 
-/* "code=6\nreply=255\nalert=1\ntherm=1\n" */
-enum { LONGEST_ANSWER = 7 + 10 + 8 + 8 };
+/* Codes other than 0 reply 0, so the longest answer is that of a read, and its length is what lets
+   second_answer_fits pass an answer unseen. */
+_Static_assert(SECOND_LONGEST_ANSWER == sizeof "code=0\nreply=255\nalert=1\ntherm=1\n" - 1,
+               "the longest answer");
+_Static_assert(SECOND_SHORTEST_RECORD == sizeof "kind=0\na=0\nb=0\nc=0\n" - 1,
+               "the shortest record");
 
 /* How many digits a number 0..999 takes. */
 static size_t digits(int number)
@@ -112,10 +116,18 @@ void second_write_word(uint8_t *to, size_t number)
 
 /* ---- the replay ---- */
 
+size_t second_room(size_t trace_len)
+{
+    size_t most_records = trace_len / SECOND_SHORTEST_RECORD;
+    if (most_records > SIZE_MAX / SECOND_LONGEST_ANSWER)
+        return SIZE_MAX;
+    return most_records * SECOND_LONGEST_ANSWER;
+}
+
 /* Where it is not plain that the answer fits, the event is tried on a copy. */
 bool second_answer_fits(const second_chip *chip, const second_record *event, size_t room)
 {
-    if (room >= LONGEST_ANSWER)
+    if (room >= SECOND_LONGEST_ANSWER)
         return true;
     second_seen counts = second_seen_counts;
     second_chip trial = *chip;

@@ -1,5 +1,6 @@
 /*
- * second_session.h - replay of a trace that arrives in portions, written from document 02, Item 1.
+ * second_session.h - replay of a trace that arrives in portions, written from document 02, Item 1,
+ * with its Item 5 on how large one output for all of them has to be.
  *
  * A session is opened at an address and fed portion after portion, cut anywhere. It answers every
  * record that is whole, carries a partial one over to the next portion, and is done once the end
@@ -58,6 +59,10 @@ int32_t second_open(second_session *session, int32_t address);
  * taken and the carried bytes stay. After 8 the caller brings the bytes not taken again. An end
  * counts only if all is taken, so not with 8, nor with a rest that is bad at once.
  * portion and output may be null where their length is 0; output_len has no limit.
+ * Where all answers since second_open go into one output, each call being lent what the answers so
+ * far have left of it, 8 is never given if that output is at least second_room of the bytes taken
+ * and those of this portion together. Whatever is lent, the records answered are never more than
+ * those bytes divided by SECOND_SHORTEST_RECORD.
  */
 int32_t second_feed(second_session *session, const uint8_t *portion, size_t portion_len,
                     int32_t end, uint8_t *output, size_t output_len,

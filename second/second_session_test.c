@@ -1,6 +1,6 @@
 /*
  * second_session_test.c - tests of sessions. Expected values are worked by hand from document 02,
- * Item 1, or taken from second_replay over the whole trace.
+ * Items 1 and 5, or taken from second_replay over the whole trace.
  */
 #include "second_session.h"
 #include "second_test.h"
@@ -87,6 +87,12 @@ static void feed_lengths(call *got, second_session *s, const void *portion, size
             && (got->code != 0 || (got->taken == len && s->ended == (before.ended || end == 1)))
             && (got->code != 8 || s->ended == 0)
             && (got->code != 7 || s->ended == (end == 1 && got->taken == len));
+        /* Item 5: an output with the room of all that is offered so far has room for this call */
+        uint32_t records = s->records - before.records;
+        got->sound = got->sound && records * SECOND_SHORTEST_RECORD <= s->used - before.used
+            && got->written <= records * SECOND_LONGEST_ANSWER
+            && (got->code != 8 || before.written + room
+                                  < second_room(before.used + before.carried_len + len));
         for (size_t i = s->carried_len; i < SECOND_MOST_CARRIED; i++)
             got->sound = got->sound && s->carried[i] == 0;
     }
@@ -485,7 +491,7 @@ static bool cut_agrees(const whole *w, const size_t *cuts, size_t n, bool apart,
         int32_t end = i == n && !apart;
         code = go_on(&y, w, to, end, room);
         while (code == 8 && y.good)
-            code = go_on(&y, w, to, end, 33);
+            code = go_on(&y, w, to, end, SECOND_LONGEST_ANSWER);
     }
     if (code == 0 && apart)
         (void)go_on(&y, w, w->len, 1, 0);
@@ -502,7 +508,7 @@ static bool bytes_agree(const whole *w, bool apart)
     for (size_t to = 1; to <= w->len && code == 0; to++) {
         int32_t end = to == w->len && !apart;
         size_t from = y.s.used;
-        code = go_on(&y, w, to, end, 33);
+        code = go_on(&y, w, to, end, SECOND_LONGEST_ANSWER);
         const char *rest = (const char *)w->trace + from;
         bool taken = y.s.used == to || completable(rest, to - from);
         at_once = at_once && y.at == (taken ? to : to - 1)
@@ -623,7 +629,7 @@ static void test_session_rooms(void)
             same = same && code == (n == 10 ? 0 : 8) && y.s.records == n && y.s.written == fill
                 && y.at == (n ? used[n - 1] : 0) && y.s.ended == (n == 10);
             while (code == 8 && y.good)
-                code = go_on(&y, &w, w.len, 1, 33);
+                code = go_on(&y, &w, w.len, 1, SECOND_LONGEST_ANSWER);
             same = same && code == 0 && arrived(&y, &w);
         }
     CHECK(same);
@@ -785,13 +791,13 @@ static void test_session_refusals(void)
 
 static void test_longest(void)
 {
-    enum { RECORDS = 883011, USED = 19 * RECORDS, WRITTEN = 31 * RECORDS };
+    enum { RECORDS = 883011, USED = SECOND_SHORTEST_RECORD * RECORDS, WRITTEN = 31 * RECORDS };
     uint8_t *trace = exactly(MOST), *output = exactly(WRITTEN + 1), report[16], progress[8];
     second_session s;
     size_t at;
 
-    for (at = 0; at + 19 <= MOST; at += 19)
-        memcpy(trace + at, RECORD(0, 0, 0, 0), 19);
+    for (at = 0; at + SECOND_SHORTEST_RECORD <= MOST; at += SECOND_SHORTEST_RECORD)
+        memcpy(trace + at, RECORD(0, 0, 0, 0), SECOND_SHORTEST_RECORD);
     memcpy(trace + at, "kind=0\n", MOST - at);
     CHECK(at == USED && MOST - at == 7 && (size_t)WRITTEN > MOST);
 
@@ -897,6 +903,267 @@ static void test_chance(void)
     CHECK(codes[0] > 1000 && codes[7] > 100 && codes[8] > 1000);
 }
 
+/* ---- one output that is not renewed (document 02, Item 5) ---- */
+
+/*
+ * What a call is lent. In the first two ways all answers go into one output, and it is what those
+ * so far have left of it: of the room of everything offered so far, this portion too, or of the
+ * whole trace's. In the third each call has an output of its own, with the room of the carried
+ * bytes and the portion.
+ */
+enum { OF_SO_FAR, OF_WHOLE, OF_ITS_OWN, LENDINGS };
+
+static size_t lent(way *y, const whole *all, size_t to, int lending)
+{
+    if (lending == OF_ITS_OWN)
+        return second_room(y->s.carried_len + (to - y->at));
+    size_t size = second_room(lending == OF_WHOLE ? all->len : to);
+    if (size >= y->s.written)
+        return size - y->s.written;
+    y->good = false;
+    return 0;
+}
+
+/* Goes the way with portions that end at each of the cuts and at the trace's end; `apart` declares
+   the end by an empty portion of its own. No answer may wait. */
+static bool room_is_enough(const whole *all, const size_t *cuts, size_t n, bool apart, int lending)
+{
+    static way y;
+    set_out(&y);
+    int32_t code = 0;
+    for (size_t i = 0; i <= n && code == 0; i++) {
+        size_t to = i < n ? cuts[i] : all->len;
+        code = go_on(&y, all, to, i == n && !apart, lent(&y, all, to, lending));
+    }
+    if (code == 0 && apart)
+        code = go_on(&y, all, all->len, 1, lent(&y, all, all->len, lending));
+    return code != 8 && arrived(&y, all);
+}
+
+/* One byte at a time, with an empty portion behind each. */
+static bool room_is_enough_for_bytes(const whole *all, bool apart, int lending)
+{
+    static way y;
+    set_out(&y);
+    int32_t code = 0;
+    for (size_t to = 0; to <= all->len && code == 0; to++) {
+        code = go_on(&y, all, to, to == all->len && !apart, lent(&y, all, to, lending));
+        if (code == 0 && !y.s.ended)
+            code = go_on(&y, all, to, 0, lent(&y, all, to, lending));
+    }
+    if (code == 0 && apart)
+        code = go_on(&y, all, all->len, 1, lent(&y, all, all->len, lending));
+    return code != 8 && arrived(&y, all);
+}
+
+static void test_one_output_cuts(void)
+{
+    static const char *const tight[] = {
+        LOW_FAULTS RESPONDED RESPONDED "kind=5\na=0\nb=0\nc=0",
+        LOW_FAULTS RESPONDED RESPONDED "kind=5\na=0\nb=0\nc=00",
+        RECORD(2, 76, 32, 255) RECORD(4, 76, 0, 0) RECORD(4, 76, 0, 0) RECORD(4, 76, 0, 0) };
+
+    for (size_t t = 0; t < TRACES + sizeof tight / sizeof *tight; t++) {
+        const char *trace = t < TRACES ? traces[t] : tight[t - TRACES];
+        replay_whole(&w, trace, strlen(trace));
+        for (int lending = 0; lending < LENDINGS; lending++) {
+            bool enough = true;
+            for (int apart = 0; apart <= 1; apart++)
+                enough = enough && room_is_enough(&w, NULL, 0, apart, lending)
+                    && room_is_enough_for_bytes(&w, apart, lending);
+            for (size_t one = 0; one <= w.len; one++)
+                for (size_t two = one; two <= w.len; two += lending == OF_SO_FAR ? 1 : 3) {
+                    size_t cuts[2] = { one, two };
+                    enough = enough && room_is_enough(&w, cuts, 2, two % 2 == 0, lending);
+                }
+            CHECK(enough);
+        }
+        /* an end too early, at every byte */
+        bool enough = true;
+        for (size_t len = 0; len < strlen(trace); len++) {
+            replay_whole(&w, trace, len);
+            for (int lending = 0; lending < LENDINGS; lending++) {
+                size_t half = len / 2;
+                enough = enough && room_is_enough(&w, &half, 1, len % 2 == 0, lending)
+                    && room_is_enough_for_bytes(&w, len % 2 == 1, lending);
+            }
+        }
+        CHECK(enough);
+    }
+}
+
+/* The whole trace in portions of up to `most` bytes into one output of exactly its room. */
+static bool fills_one_output(const whole *all, uint32_t most)
+{
+    size_t size = second_room(all->len), at = 0;
+    uint8_t *output = exactly(size), report[16], progress[8];
+    second_session s = opened();
+    int32_t code = 0;
+
+    for (uint32_t calls = 0; code == 0 && !s.ended && calls < MOST_CALLS; calls++) {
+        size_t len = random_number(most + 1);
+        len = len < all->len - at ? len : all->len - at;
+        code = second_feed(&s, all->trace + at, len, at + len == all->len,
+                           size ? output + s.written : NULL, size - s.written,
+                           report, 16, progress, 8);
+        at += word_at(progress);
+    }
+    bool good = code == all->code && memcmp(report, all->report, 16) == 0
+        && s.written == all->written && untouched(output, all->written, size)
+        && (size == 0 || memcmp(output, all->output, all->written) == 0);
+    free(output);
+    return good;
+}
+
+/* Any list of portions, among them ends too early and calls that are refused. */
+static void test_one_output_by_chance(void)
+{
+    static const uint32_t most_bytes[] = { 1, 8, 40, 280 };
+    static whole offered;
+    static way y;
+    static call got;
+    uint32_t over = 0, early = 0, codes[10] = { 0 };
+
+    for (int turn = 0; turn < 1500; turn++) {
+        replay_whole(&w, w.trace, chance_trace(w.trace, 64 + random_number(1200)));
+        CHECK(fills_one_output(&w, most_bytes[turn % 4]));
+        CHECK(fills_one_output(&w, (uint32_t)w.len));
+
+        int lending = turn % LENDINGS;
+        size_t to = 0;
+        bool enough = true;
+        set_out(&y);
+        while (!y.s.stopped && !y.s.ended && y.good && enough) {
+            if (random_number(10) == 0) {
+                int32_t end = 2 * (int32_t)random_number(2);
+                feed_lengths(&got, &y.s, w.trace, 30, end, 0, end ? 16 : 15, 8);
+                enough = got.sound && got.refused && got.code == 2;
+            }
+            if (random_number(4) == 0) {
+                /* over the total: refused before it is looked at, and so before its room matters */
+                uint8_t report[16], progress[8];
+                size_t len = random_number(2) ? SIZE_MAX : MOST - y.at + 1;
+                second_session before = y.s;
+                enough = enough && second_feed(&y.s, w.trace, len, (int32_t)random_number(2), NULL,
+                                               0, report, 16, progress, 8) == 2
+                    && memcmp(&before, &y.s, sizeof before) == 0;
+                over++;
+            }
+            to += random_number(most_bytes[random_number(4)] + 1);
+            to = to < w.len ? to : w.len;
+            int32_t end = to == w.len ? random_number(3) == 0 : random_number(80) == 0;
+            early += end && to < w.len;
+            int32_t code = go_on(&y, &w, to, end, lent(&y, &w, to, lending));
+            enough = enough && code != 8
+                && y.s.records <= to / SECOND_SHORTEST_RECORD && y.s.written <= second_room(to);
+            codes[code]++;
+        }
+        /* it came to where the replay of what was offered comes */
+        replay_whole(&offered, w.trace, to);
+        CHECK(enough && arrived(&y, &offered));
+
+        /* and there it stays: no room at all, and still no 8 */
+        for (int more = 0; more < 4; more++) {
+            size_t len = random_number(3) ? random_number(100) : 0;
+            feed(&got, &y.s, len ? (const uint8_t *)LOW_FAULTS LOW_FAULTS LOW_FAULTS : NULL, len,
+                 more % 2, 0);
+            int32_t code = y.s.ended && len ? 9 : y.s.stopped ? 7 : 0;
+            CHECK(got.sound && got.code == code && got.refused == (code != 0));
+        }
+    }
+    CHECK(codes[0] > 1000 && codes[7] > 100 && codes[8] == 0 && over > 1000 && early > 100);
+}
+
+/* Feeds all, in portions of 97 bytes and each byte once, into one output that has `each` bytes for
+   each full `bytes` of what is offered so far, and `besides` more. */
+static int32_t fed_scantly(second_session *s, const uint8_t *trace, size_t len,
+                           size_t each, size_t bytes, size_t besides)
+{
+    uint8_t *output = exactly(len / bytes * each + besides), report[16], progress[8];
+    int32_t code = 0;
+    *s = opened();
+    for (size_t at = 0; at < len && code == 0; at += 97) {
+        size_t to = len - at < 97 ? len : at + 97, size = to / bytes * each + besides;
+        size_t room = size < s->written ? 0 : size - s->written;
+        code = second_feed(s, trace + at, to - at, to == len, output + s->written, room,
+                           report, 16, progress, 8);
+    }
+    free(output);
+    return code;
+}
+
+static void test_one_output_best(void)
+{
+    static const size_t besides[] = { 0, 1000, 20000 };
+    enum { FEWER = SECOND_LONGEST_ANSWER - 1, MORE = SECOND_SHORTEST_RECORD + 1 };
+    second_session s;
+
+    for (size_t i = 0; i < sizeof besides / sizeof *besides; i++) {
+        size_t records = besides[i] + 5, len = records * strlen(RESPONDED);
+        uint8_t *trace = exactly(len);
+        fill_with_responses(trace, len);
+        CHECK(fed_scantly(&s, trace, len, FEWER, SECOND_SHORTEST_RECORD, besides[i]) == 8);
+        CHECK(s.records < records && !s.ended);
+        CHECK(fed_scantly(&s, trace, len, SECOND_LONGEST_ANSWER, MORE, besides[i]) == 8);
+        CHECK(s.records < records && !s.ended);
+        CHECK(fed_scantly(&s, trace, len, SECOND_LONGEST_ANSWER, SECOND_SHORTEST_RECORD, 0) == 0);
+        CHECK(s.records == len / SECOND_SHORTEST_RECORD && s.written == responses_length(records));
+        CHECK(s.ended);
+        free(trace);
+    }
+
+    /* renewed for each portion, its room counted by the portion alone: one byte ends a record */
+    s = opened();
+    FEED("kind=6\na=0\nb=0\nc=0", 0, second_room(18), 0, 18, "", 0, 0, 0, 18);
+    FEED("\n", 0, second_room(1), 8, 0, "", 0, 0, 0, 18);
+    FEED("\n", 0, second_room(19), 0, 1, ANSWER(0, 0, 1, 1), 1, 19, 31, 0);
+    /* bytes brought again count once: 8 and 8 again add nothing to what is offered */
+    FEED(RECORD(7, 0, 0, 0) RESPONDED, 0, SECOND_LONGEST_ANSWER, 8, 19, ANSWER(0, 0, 0, 1),
+         2, 38, 62, 0);
+    FEED(RESPONDED, 0, SECOND_LONGEST_ANSWER - 1, 8, 0, "", 2, 38, 62, 0);
+    FEED(RESPONDED, 1, second_room(57) - 62, 0, 19, RESPONDED_ANSWER, 3, 57, 95, 0);
+
+    /* not empty at the start: 4 bytes are all that these leave of their room */
+    s = opened();
+    FEED(LOW_FAULTS RESPONDED RESPONDED, 1, second_room(76) - 5, 8, 57,
+         LOW_FAULTS_ANSWERS RESPONDED_ANSWER, 3, 57, 95, 0);
+    s = opened();
+    FEED(LOW_FAULTS RESPONDED RESPONDED, 1, second_room(76) - 4, 0, 76,
+         LOW_FAULTS_ANSWERS RESPONDED_ANSWER RESPONDED_ANSWER, 4, 76, 128, 0);
+    CHECK(second_open(&s, 77) == 0);
+    FEED(LOW_FAULTS RESPONDED RESPONDED, 1, second_room(76), 0, 76,
+         LOW_FAULTS_ANSWERS ANSWER(0, 155, 0, 1) ANSWER(0, 155, 0, 1), 4, 76, 128, 0);
+}
+
+/* A session's output has no limit: 16 MiB of trace go into the room that they need. */
+static void test_one_output_longest(void)
+{
+    enum { RECORDS = 883011, ROOM = 29139363, FIRST = 2 * 31, EACH = SECOND_LONGEST_ANSWER };
+    uint8_t *trace = exactly(MOST), *output = exactly(ROOM), report[16], progress[8];
+    second_session s = opened();
+    bool steady = true;
+
+    fill_with_responses(trace, MOST);
+    CHECK(second_room(MOST) == ROOM && responses_length(RECORDS) == ROOM - 4);
+    for (size_t at = 0; at < MOST && steady;) {
+        size_t len = 1 + random_number(random_number(2) ? 100 : 100000);
+        len = len < MOST - at ? len : MOST - at;
+        size_t size = random_number(2) ? second_room(at + len) : ROOM;
+        steady = second_feed(&s, trace + at, len, 0, output + s.written, size - s.written,
+                             report, 16, progress, 8) == 0
+            && word_at(progress) == len;
+        at += len;
+    }
+    CHECK(steady && s.records == RECORDS && s.written == ROOM - 4 && s.carried_len == 7);
+    CHECK(memcmp(output + FIRST, RESPONDED_ANSWER, EACH) == 0
+          && memcmp(output + FIRST, output + FIRST + EACH, ROOM - 4 - FIRST - EACH) == 0);
+    CHECK(untouched(output, ROOM - 4, ROOM));
+    REFUSED_AS(2, "a", 0);
+    FEED("", 1, 0, 7, 0, "", RECORDS, MOST - 7, ROOM - 4, 7);
+    free(trace);
+    free(output);
+}
+
 void test_session(void)
 {
     test_open();
@@ -908,4 +1175,8 @@ void test_session(void)
     test_session_refusals();
     test_longest();
     test_chance();
+    test_one_output_cuts();
+    test_one_output_by_chance();
+    test_one_output_best();
+    test_one_output_longest();
 }

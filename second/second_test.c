@@ -1,4 +1,4 @@
-/* second_test.c - tests from document 01's cases and rules and document 02's Items 3 and 4, with
+/* second_test.c - tests from document 01's cases and rules and document 02's Items 3, 4 and 5, with
    the values they expect. */
 #include "second.h"
 #include "second_history.h"
@@ -1475,6 +1475,21 @@ typedef struct {
     uint8_t output[ROOM];
 } outcome;
 
+static uint32_t word_at(const uint8_t *from)
+{
+    return (uint32_t)from[0] | (uint32_t)from[1] << 8 | (uint32_t)from[2] << 16
+         | (uint32_t)from[3] << 24;
+}
+
+/* What Item 5 says of any replay, whatever its room: no more records than the trace can hold, no
+   more answers than they can give, and no code 8 with room enough. */
+static bool within_bound(const outcome *got, size_t len, size_t room)
+{
+    return got->word[1] <= len / SECOND_SHORTEST_RECORD
+        && got->word[3] <= (size_t)got->word[1] * SECOND_LONGEST_ANSWER
+        && (got->code != 8 || room < second_room(len));
+}
+
 /* Replays with exactly sized heap copies, so that the sanitizer sees a step outside. */
 static outcome replaying(int32_t address, const void *trace, size_t len, size_t room)
 {
@@ -1492,10 +1507,10 @@ static outcome replaying(int32_t address, const void *trace, size_t len, size_t 
     if (room)
         memcpy(got.output, exact_out, room < ROOM ? room : ROOM);
     for (int i = 0; i < 4; i++)
-        got.word[i] = (uint32_t)report[4 * i] | (uint32_t)report[4 * i + 1] << 8
-                    | (uint32_t)report[4 * i + 2] << 16 | (uint32_t)report[4 * i + 3] << 24;
+        got.word[i] = word_at(report + 4 * i);
     free(exact_in);
     free(exact_out);
+    CHECK(within_bound(&got, len, room));
     return got;
 }
 
@@ -1671,9 +1686,9 @@ static void test_refused_replay(void)
         abort();
     memset(out, UNTOUCHED, MOST + 1);
     size_t at = 0;
-    while (at + 19 <= MOST) {
-        memcpy(big + at, RECORD(0, 0, 0, 0), 19);
-        at += 19;
+    while (at + SECOND_SHORTEST_RECORD <= MOST) {
+        memcpy(big + at, RECORD(0, 0, 0, 0), SECOND_SHORTEST_RECORD);
+        at += SECOND_SHORTEST_RECORD;
     }
     memset(big + at, 'x', MOST + 1 - at);
     CHECK(second_replay(76, big, MOST + 1, out, 256, report, 16) == 2);
@@ -1974,6 +1989,447 @@ static void test_therm2_walks(void)
     CHECK(counts.claims[HISTORY_ALERT] > 0 && counts.claims[HISTORY_THERM2] > 0);
 }
 
+/* ---- how large an output (document 02, Item 5) ---- */
+
+void fill_with_responses(uint8_t *trace, size_t len)
+{
+    static const char begin[] = LOW_FAULTS, each[] = RESPONDED;
+    size_t at = len < strlen(begin) ? len : strlen(begin);
+
+    memcpy(trace, begin, at);
+    while (at < len) {
+        size_t part = len - at < strlen(each) ? len - at : strlen(each);
+        memcpy(trace + at, each, part);
+        at += part;
+    }
+}
+
+size_t responses_length(size_t records)
+{
+    size_t answer = strlen(LOW_FAULTS_ANSWERS) / 2;
+    return records <= 2 ? records * answer : 2 * answer + (records - 2) * strlen(RESPONDED_ANSWER);
+}
+
+/* A number of 1 to 5 digits, with a minus at times; most of 5 with one. */
+static int32_t random_wide(void)
+{
+    static const uint32_t below[] = { 10, 100, 1000, 10000, 100000 };
+    if (random_number(4))
+        return -(int32_t)(10000 + random_number(90000));
+    int32_t number = (int32_t)random_number(below[random_number(5)]);
+    return random_number(2) ? number : -number;
+}
+
+size_t chance_trace(uint8_t *trace, size_t most)
+{
+    enum { EVENTS, SHORTEST, LONGEST, ANSWERED_LONG, SORTS };
+    static const int32_t responses[8][4] = {
+        { 5, 0, 0, 0 }, { 5, 0, 0, 0 }, { 5, 0, 0, 0 }, { 5, 0, 0, 0 }, { 6, 0, 0, 0 },
+        { 7, 0, 0, 0 }, { 2, 76, 0x20, 255 }, { 4, 76, 0, 0 } };
+    static const uint8_t bytes[] = "019-\n=kabc x";
+    uint32_t sort = random_number(SORTS);
+    size_t records = random_number((uint32_t)(most / SECOND_SHORTEST_RECORD)), len = 0;
+
+    if (sort == ANSWERED_LONG) {
+        len = strlen(LOW_FAULTS);
+        memcpy(trace, LOW_FAULTS, len);
+    }
+    while (records-- > 0 && most - len > strlen(RECORD(-12345, -12345, -12345, -12345)) + 1) {
+        int32_t kind = (int32_t)random_number(9), a = 0, b = 0, c = 0;
+        switch (sort) {
+        case EVENTS:
+            if (kind >= 1 && kind <= 4)
+                a = (int32_t)(random_number(20) ? 76 + random_number(2) : random_number(130));
+            if (kind >= 1 && kind <= 3)
+                b = (int32_t)random_number(random_number(10) ? 0x23 : 256);
+            if (kind == 2)
+                c = (int32_t)random_number(256);
+            if (kind == 7) {
+                a = (int32_t)random_number(280) - 80;
+                b = (int32_t)random_number(1400) - 300;
+                c = random_number(10) == 0;
+            }
+            break;
+        case SHORTEST:
+            a = random_number(8) ? 0 : (int32_t)random_number(10);
+            b = random_number(8) ? 0 : (int32_t)random_number(10);
+            c = random_number(8) ? 0 : (int32_t)random_number(10);
+            break;
+        case LONGEST:
+            kind = random_number(2) ? random_wide() : kind;
+            a = random_wide();
+            b = random_wide();
+            c = random_wide();
+            break;
+        default: {
+            const int32_t *record = responses[random_number(8)];
+            kind = record[0];
+            a = record[1];
+            b = record[2];
+            c = record[3];
+        }
+        }
+        len += (size_t)snprintf((char *)trace + len, most - len, "kind=%d\na=%d\nb=%d\nc=%d\n",
+                                (int)kind, (int)a, (int)b, (int)c);
+        if (random_number(40) == 0)
+            sort = random_number(SORTS);
+    }
+    if (len == 0)
+        return 0;
+
+    /* damage: more often late than early, so that most of the trace is replayed */
+    size_t at = random_number((uint32_t)len), other = random_number((uint32_t)len);
+    at = at > other ? at : other;
+    uint8_t byte = random_number(4) ? bytes[random_number(12)] : (uint8_t)random_number(256);
+    switch (random_number(6)) {
+    case 0:                                              /* cut anywhere */
+        return at;
+    case 1:                                              /* a byte changed */
+        trace[at] = byte;
+        return len;
+    case 2:                                              /* a byte put in */
+        memmove(trace + at + 1, trace + at, len - at);
+        trace[at] = byte;
+        return len + 1;
+    case 3:                                              /* a byte left out */
+        memmove(trace + at, trace + at + 1, len - at - 1);
+        return len - 1;
+    default:
+        return len;
+    }
+}
+
+/* How many groups of four lines a text is, and how long the shortest and the longest are. */
+typedef struct {
+    size_t count, shortest, longest;
+} groups;
+
+static groups by_fours(const uint8_t *text, size_t len)
+{
+    groups found = { 0, SIZE_MAX, 0 };
+    size_t begin = 0, lines = 0;
+
+    for (size_t at = 0; at < len; at++) {
+        if (text[at] != '\n' || ++lines % 4 != 0)
+            continue;
+        size_t length = at + 1 - begin;
+        found.shortest = length < found.shortest ? length : found.shortest;
+        found.longest = length > found.longest ? length : found.longest;
+        found.count++;
+        begin = at + 1;
+    }
+    return found;
+}
+
+/* The extremes over all traces that room_holds was asked about. */
+static groups records_seen, answers_seen;
+
+/* Whether with exactly its room, and with any more, a trace is replayed as with plenty: to its end
+   or to where it is malformed. Plenty is what these traces, of up to 2300 bytes, can't need. */
+static bool room_holds(int32_t address, const void *trace, size_t len)
+{
+    static outcome plenty, got;
+    size_t room = second_room(len);
+
+    plenty = replaying(address, trace, len, ROOM);
+    size_t written = plenty.word[3];
+    bool good = (plenty.code == 0 || plenty.code == 7) && room < ROOM;
+    good = good && (room == 0 ? written == 0 : written < room);      /* see READINGS.md, 77 */
+
+    size_t rooms[] = { room, room + 1, room + 2 + random_number(200) };
+    for (size_t i = 0; i < sizeof rooms / sizeof *rooms && good; i++) {
+        got = replaying(address, trace, len, rooms[i]);
+        good = got.code == plenty.code && memcmp(got.word, plenty.word, sizeof got.word) == 0
+            && memcmp(got.output, plenty.output, written) == 0;
+    }
+    /* any room: 8 exactly if what is written with plenty is more */
+    size_t any = random_number((uint32_t)room + 1);
+    good = good && (replaying(address, trace, len, any).code == 8) == (any < written);
+
+    /* the two reasons for the bound, in the texts themselves */
+    groups records = by_fours(trace, plenty.word[2]), answers = by_fours(plenty.output, written);
+    good = good && records.count == plenty.word[1] && answers.count == plenty.word[1]
+        && records.shortest >= SECOND_SHORTEST_RECORD && answers.longest <= SECOND_LONGEST_ANSWER;
+    records_seen.count += records.count;
+    if (records.shortest < records_seen.shortest)
+        records_seen.shortest = records.shortest;
+    if (records.longest > records_seen.longest)
+        records_seen.longest = records.longest;
+    if (answers.longest > answers_seen.longest)
+        answers_seen.longest = answers.longest;
+    return good;
+}
+
+/* A byte of 3 digits written, then received: records of 20 bytes with the longest answer. */
+#define KEPT RECORD(2, 76, 32, 255)
+#define RECEIVED RECORD(4, 76, 0, 0)
+
+static void test_room_numbers(void)
+{
+    static const char shortest[] = RECORD(0, 0, 0, 0);
+
+    CHECK(SECOND_SHORTEST_RECORD == 19 && SECOND_LONGEST_ANSWER == 33);
+    CHECK(second_room(0) == 0 && second_room(1) == 0 && second_room(18) == 0);
+    CHECK(second_room(19) == 33 && second_room(20) == 33 && second_room(37) == 33);
+    CHECK(second_room(38) == 66 && second_room(200) == 330 && second_room(24576) == 42669);
+    CHECK(second_room(SECOND_MOST_BYTES) == 29139363);
+    /* what a size_t can't hold is all that it can */
+    size_t records = SIZE_MAX / SECOND_LONGEST_ANSWER;
+    size_t most = (records + 1) * SECOND_SHORTEST_RECORD;
+    CHECK(second_room(most - 1) == records * SECOND_LONGEST_ANSWER);
+    CHECK(second_room(most) == SIZE_MAX && second_room(SIZE_MAX / 2 + most / 2) == SIZE_MAX);
+    CHECK(second_room(SIZE_MAX) == SIZE_MAX && second_room(SIZE_MAX - 18) == SIZE_MAX);
+
+    /* a record as short as that, and no byte of it may be left out */
+    CHECK(strlen(shortest) == SECOND_SHORTEST_RECORD);
+    REPLAY(RECORD(0, 0, 0, 0), second_room(19), 0, 1, 19, ANSWER(0, 0, 1, 1));
+    for (size_t out = 0; out < strlen(shortest); out++) {
+        char trace[20 * sizeof shortest];
+        size_t len = 0;
+        for (int n = 0; n < 20; n++)
+            for (size_t i = 0; i < strlen(shortest); i++)
+                if (i != out)
+                    trace[len++] = shortest[i];
+        outcome got = replaying(76, trace, len, ROOM);
+        CHECK(got.code == 7 && got.word[1] == 0);
+    }
+
+    /* an answer as long as that, to a record as short; and to reads of every value, none longer */
+    CHECK(strlen(RESPONDED) == SECOND_SHORTEST_RECORD);
+    CHECK(strlen(RESPONDED_ANSWER) == SECOND_LONGEST_ANSWER);
+    REPLAY(LOW_FAULTS RESPONDED RESPONDED RESPONDED, second_room(95), 0, 5, 95,
+           LOW_FAULTS_ANSWERS RESPONDED_ANSWER RESPONDED_ANSWER RESPONDED_ANSWER);
+    for (int value = 0; value <= 255; value++) {
+        char trace[64];
+        int len = snprintf(trace, sizeof trace, "kind=2\na=76\nb=32\nc=%d\n" RECEIVED, value);
+        outcome got = replaying(76, trace, (size_t)len, ROOM);
+        size_t digits = value < 10 ? 1 : value < 100 ? 2 : 3;
+        CHECK(got.code == 0 && got.word[3] == 31 + 30 + digits);
+        CHECK(by_fours(got.output, got.word[3]).longest <= SECOND_LONGEST_ANSWER);
+    }
+    /* but not at power-on, where no register has 3 digits and ALERT is high: a first answer has 32
+       at most, so that any trace leaves one byte of its room, and some trace no more */
+    for (int command = 0; command <= 255; command++) {
+        char trace[64];
+        int len = snprintf(trace, sizeof trace, "kind=3\na=76\nb=%d\nc=0\n", command);
+        outcome got = replaying(76, trace, (size_t)len, ROOM);
+        CHECK(got.word[1] == 1 && got.word[3] < SECOND_LONGEST_ANSWER);
+    }
+    CHECK(replaying(76, RECEIVED, 20, ROOM).word[3] == 31);
+    REPLAY(RESPONDED, second_room(19), 0, 1, 19, ANSWER(3, 0, 1, 1));
+    REPLAY(RECORD(3, 76, 5, 0), second_room(20) - 1, 0, 1, 20, ANSWER(0, 85, 1, 1));
+    REPLAY(RECORD(3, 76, 5, 0), second_room(20) - 2, 8, 0, 0, "");
+}
+
+static void test_room_by_hand(void)
+{
+    /* the trace, and how much of its room its answers leave */
+    static const struct {
+        const char *trace;
+        size_t left;
+    } cases[] = {
+        { "", 0 }, { "k", 0 }, { "kind=0\na=0\nb=0\nc=0", 0 }, { "x" RECORD(0, 0, 0, 0), 33 },
+        { RECORD(0, 0, 0, 0), 2 }, { RECORD(3, 76, 254, 0), 1 }, { RECORD(3, 77, 254, 0), 2 },
+        { WHOLE_CASE, 5 }, { WHOLE_CASE K11, 15 },
+        { LOW_FAULTS, 4 }, { LOW_FAULTS RESPONDED, 4 },
+        { LOW_FAULTS RESPONDED RESPONDED "kind=5\na=0", 4 },
+        { LOW_FAULTS RESPONDED RESPONDED RESPONDED RESPONDED RESPONDED RESPONDED RESPONDED, 4 },
+        { LOW_FAULTS RESPONDED RESPONDED "kind=5\na=0\nb=0\nc=0 ", 37 },
+        { KEPT RECEIVED, 2 },
+        /* 23 + 14 * 20 = 303 bytes, 15 times 19 and 18 left over; one more makes it 17 times */
+        { KEPT RECEIVED RECEIVED RECEIVED RECEIVED RECEIVED RECEIVED RECEIVED RECEIVED RECEIVED
+          RECEIVED RECEIVED RECEIVED RECEIVED RECEIVED, 2 },
+        { KEPT RECEIVED RECEIVED RECEIVED RECEIVED RECEIVED RECEIVED RECEIVED RECEIVED RECEIVED
+          RECEIVED RECEIVED RECEIVED RECEIVED RECEIVED RECEIVED, 35 },
+        { RECORD(-12345, -12345, -12345, -12345) RECORD(99999, -99999, 99999, -99999), 70 },
+    };
+
+    for (size_t i = 0; i < sizeof cases / sizeof *cases; i++) {
+        const char *trace = cases[i].trace;
+        size_t len = strlen(trace), room = second_room(len);
+        outcome got = replaying(76, trace, len, room);
+        size_t written = got.word[3];
+        CHECK(got.code != 8 && written + cases[i].left == room);
+        CHECK(written == 0 || replaying(76, trace, len, written - 1).code == 8);
+        bool good = true;
+        for (size_t any = 0; any <= room + 40; any++)
+            good = good && (replaying(76, trace, len, any).code == 8) == (any < written);
+        CHECK(good);
+        /* cut anywhere, for both addresses */
+        for (size_t cut = 0; cut <= len; cut++)
+            good = good && room_holds(76, trace, cut) && room_holds(77, trace, cut);
+        CHECK(good);
+    }
+    static const char *const told[] = { REFUSED, PULLED, FAN };
+    for (size_t i = 0; i < sizeof told / sizeof *told; i++) {
+        bool good = true;
+        for (size_t cut = 0; cut <= strlen(told[i]); cut++)
+            good = good && room_holds(76, told[i], cut);
+        CHECK(good);
+    }
+}
+
+/* With room enough 8 is not given for any other argument either: what is bad is 2. */
+static void test_room_arguments(void)
+{
+    enum { MOST = SECOND_MOST_BYTES, LOOKED_AT = 512 };
+    static const int32_t addresses[] = { 76, 77, 75, 78, 0, -1, 332, INT32_MIN, INT32_MAX };
+    static const size_t report_lens[] = { 16, 0, 15, 17, 32 };
+    static const char *const traces[] = {
+        "", LOW_FAULTS RESPONDED RESPONDED RESPONDED, "x", LOW_FAULTS "kind" };
+    static const uint32_t records[] = { 0, 5, 0, 2 };
+    uint8_t *output = malloc(MOST), report[32], still[LOOKED_AT];
+    if (!output)
+        abort();
+    memset(still, UNTOUCHED, sizeof still);
+
+    for (size_t t = 0; t < sizeof traces / sizeof *traces; t++)
+        for (size_t i = 0; i < 9 * 5 * 3 * 6; i++) {
+            size_t len = strlen(traces[t]), room = second_room(len);
+            const size_t lens[] = { len, MOST + 1, SIZE_MAX };
+            const size_t rooms[] = { room, room + 1, room + 16, MOST, MOST + 1, SIZE_MAX };
+            int32_t address = addresses[i % 9];
+            size_t report_len = report_lens[i / 9 % 5], trace_len = lens[i / 45 % 3];
+            size_t output_len = rooms[i / 135];
+            memset(output, UNTOUCHED, LOOKED_AT);
+            memset(report, UNTOUCHED, sizeof report);
+            int32_t code = second_replay(address, trace_len ? (const uint8_t *)traces[t] : NULL,
+                                         trace_len, output_len ? output : NULL, output_len,
+                                         report_len ? report : NULL, report_len);
+            bool taken = address >= 76 && address <= 77 && report_len == 16 && trace_len <= MOST
+                && output_len <= MOST;
+            if (taken)
+                CHECK(code == (t < 2 ? 0 : 7) && word_at(report + 4) == records[t]);
+            else
+                CHECK(code == 2 && memcmp(output, still, LOOKED_AT) == 0
+                      && memcmp(report, still, sizeof report) == 0);
+        }
+    free(output);
+}
+
+static void test_room_by_chance(void)
+{
+    static uint8_t trace[2300];
+    static const uint8_t noise[] = "kind=abc0\n-";
+    enum { TURNS = 3000 };
+    uint32_t ends[9] = { 0 };
+
+    for (int turn = 0; turn < TURNS; turn++) {
+        size_t len = chance_trace(trace, random_number(2) ? sizeof trace : 64 + random_number(300));
+        CHECK(room_holds(76 + turn % 2, trace, len));
+        ends[second_replay(76 + turn % 2, trace, len, (uint8_t[ROOM]){ 0 }, second_room(len),
+                           (uint8_t[16]){ 0 }, 16)]++;
+    }
+    CHECK(ends[0] > TURNS / 5 && ends[7] > TURNS / 5 && ends[0] + ends[7] == TURNS);
+    bool good = true;
+    for (int turn = 0; turn < 500; turn++) {
+        size_t len = random_number(200);
+        for (size_t i = 0; i < len; i++)
+            trace[i] = random_number(8) ? noise[random_number(11)] : (uint8_t)random_number(256);
+        good = good && room_holds(76, trace, len);
+    }
+    CHECK(good);
+
+    /* and the traces came to both ends of what there is */
+    CHECK(records_seen.shortest == SECOND_SHORTEST_RECORD && records_seen.longest == 39);
+    CHECK(answers_seen.longest == SECOND_LONGEST_ANSWER && records_seen.count > 50000);
+}
+
+/* Neither number can be better: with one byte less for each record, or one byte more of the trace
+   for each answer, some trace is stopped, whatever fixed number of bytes is lent besides. */
+static void test_room_best(void)
+{
+    static const size_t besides[] = { 0, 1, 2, 50, 1000, 50000 };
+    enum { FEWER = SECOND_LONGEST_ANSWER - 1, MORE = SECOND_SHORTEST_RECORD + 1 };
+    uint8_t report[16];
+
+    for (size_t i = 0; i < sizeof besides / sizeof *besides; i++) {
+        /* 2 * 31 + (n - 2) * 33 bytes of answers, n * 32 + k lent: n = k + 4 is the last to fit */
+        size_t records = besides[i] + 5, len = records * strlen(RESPONDED);
+        uint8_t *trace = malloc(len), *output = malloc(second_room(len) + besides[i]);
+        if (!trace || !output)
+            abort();
+        fill_with_responses(trace, len);
+        size_t scant = len / SECOND_SHORTEST_RECORD * FEWER + besides[i];
+        CHECK(second_replay(76, trace, len, output, scant, report, 16) == 8);
+        CHECK(word_at(report + 4) == records - 1);
+        size_t shorter = len - strlen(RESPONDED);
+        scant = shorter / SECOND_SHORTEST_RECORD * FEWER + besides[i];
+        CHECK(second_replay(76, trace, shorter, output, scant, report, 16) == 0);
+        CHECK(word_at(report + 12) == scant);
+
+        scant = len / MORE * SECOND_LONGEST_ANSWER + besides[i];
+        CHECK(second_replay(76, trace, len, output, scant, report, 16) == 8);
+        CHECK(word_at(report + 4) < records);
+
+        /* with the room of Item 5 none is, and the records are as many as Item 5 lets them be */
+        CHECK(second_replay(76, trace, len, output, second_room(len), report, 16) == 0);
+        CHECK(word_at(report + 4) == len / SECOND_SHORTEST_RECORD);
+        CHECK(word_at(report + 12) == responses_length(records));
+        CHECK(word_at(report + 4) > len / MORE);
+        free(trace);
+        free(output);
+    }
+
+    /* nor is there a fixed number besides with which a trace divided by 20 bounds the records */
+    enum { RECORDS = 20100, LEN = RECORDS * SECOND_SHORTEST_RECORD };
+    static uint8_t trace[LEN], output[RECORDS * SECOND_LONGEST_ANSWER];
+    fill_with_responses(trace, LEN);
+    CHECK(second_replay(76, trace, LEN, output, second_room(LEN), report, 16) == 0);
+    CHECK(word_at(report + 4) == RECORDS && word_at(report + 4) > LEN / MORE + 1000);
+}
+
+/* Item 5 leaves document 01's limit of an output: the room of a long trace can't be lent. */
+static void test_room_limit(void)
+{
+    enum { MOST = SECOND_MOST_BYTES, RECORDS = 508400, LAST = 9659618, LAST_ROOM = 16777200 };
+    uint8_t *trace = malloc(LAST + 1), *output = malloc(MOST + 17), report[16], still[16];
+    if (!trace || !output)
+        abort();
+    fill_with_responses(trace, LAST + 1);
+    memset(still, UNTOUCHED, sizeof still);
+
+    /* 16 MiB is 508400 times 33 and 16 bytes more */
+    CHECK(second_room(LAST) == LAST_ROOM && LAST_ROOM <= MOST);
+    CHECK(second_room(LAST + 1) == MOST + 17);
+
+    /* the longest trace whose room can be lent: 18 bytes behind the last record are no record */
+    memset(output, UNTOUCHED, MOST + 17);
+    CHECK(second_replay(76, trace, LAST, output, LAST_ROOM, report, 16) == 7);
+    CHECK(word_at(report + 4) == RECORDS && word_at(report + 8) == LAST - 18);
+    CHECK(word_at(report + 12) == LAST_ROOM - 4 && responses_length(RECORDS) == LAST_ROOM - 4);
+    CHECK(output[LAST_ROOM - 5] == '\n' && output[LAST_ROOM - 4] == UNTOUCHED);
+    CHECK(second_replay(76, trace, LAST, output, LAST_ROOM + 1, report, 16) == 7);
+    CHECK(second_replay(76, trace, LAST, output, LAST_ROOM - 1, report, 16) == 7);
+    CHECK(second_replay(76, trace, LAST, output, LAST_ROOM - 5, report, 16) == 8);
+    CHECK(word_at(report + 4) == RECORDS - 1);
+
+    /* one byte more: its room is refused, and all that may be lent is too little */
+    memset(report, UNTOUCHED, sizeof report);
+    output[0] = UNTOUCHED;
+    CHECK(second_replay(76, trace, LAST + 1, output, MOST + 17, report, 16) == 2);
+    CHECK(second_replay(76, trace, LAST + 1, output, MOST + 1, report, 16) == 2);
+    CHECK(second_replay(76, trace, LAST, output, MOST + 1, report, 16) == 2);
+    CHECK(memcmp(report, still, sizeof report) == 0 && output[0] == UNTOUCHED);
+    CHECK(second_replay(76, trace, LAST + 1, output, MOST, report, 16) == 8);
+    CHECK(word_at(report + 4) == RECORDS && word_at(report + 12) == LAST_ROOM - 4);
+    CHECK(output[MOST] == UNTOUCHED);
+    free(trace);
+    free(output);
+}
+
+static void test_room(void)
+{
+    records_seen = (groups){ 0, SIZE_MAX, 0 };
+    answers_seen = records_seen;
+    test_room_numbers();
+    test_room_by_hand();
+    test_room_arguments();
+    test_room_by_chance();
+    test_room_best();
+    test_room_limit();
+}
+
 int main(void)
 {
     test_fresh();
@@ -1993,6 +2449,7 @@ int main(void)
     test_counters();
     test_walks();
     test_therm2_walks();
+    test_room();
     test_history();
     test_session();
     printf("%d passed, %d failed\n", passed, failed);

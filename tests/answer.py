@@ -71,7 +71,7 @@ def recorded(room):
         place = f"{trace}:{lines + 1}: no record begins here (record {lines // 4 + 1}, behind {used} bytes): "
         if have[:2] != (1, answers) or not have[2].startswith(place) or have[2].count("\n") != 1:
             wrong.append(f"{name}: {place!r} wanted, {have} found")
-    check(f"{seen} recorded traces are answered as recorded, and those that stop say where", wrong or ([] if seen >= 97 else ["so few"]))
+    check(f"{seen} recorded traces are answered as recorded, and those that stop say where", wrong or ([] if seen >= 100 else ["so few"]))
     check("both addresses are among them", differs(addresses, {"76", "77"}))
 
 

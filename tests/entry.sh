@@ -21,8 +21,8 @@ code 0: 3 records, 61 bytes of trace, 94 bytes of answers'
 got=$(examples/run.sh whole_case)
 [[ $got == "$wanted" ]] || { echo "FAILED: the example wrote"; echo "$got"; exit 1; }
 
-wanted='380 bytes of trace, room for 660 of answers: code 0, 20 records, 656 bytes of answers
-16777209 bytes of trace, room for 29139363 of answers: code 0, 883011 records, 29139359 bytes of answers'
+wanted='380 bytes of trace, room 660: code 0, 20 records, 656 bytes of answers
+16777209 bytes of trace, room 29139363: code 0, 883011 records, 29139359 bytes of answers'
 got=$(examples/run.sh room)
 [[ $got == "$wanted" ]] || { echo "FAILED: the example of room wrote"; echo "$got"; exit 1; }
 

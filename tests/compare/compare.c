@@ -109,6 +109,11 @@ static void show_result(const char *whose, const call_result *result, size_t rep
     putchar('\n');
 }
 
+static size_t records_told(const call_result *result)
+{
+    return result->report[4] + 256U * result->report[5] + 65536U * result->report[6] + 16777216U * result->report[7];
+}
+
 /* The record whose answer differs or, where no answer does, the one that the second model stopped at. */
 static size_t record_of(const call_input *in, const call_result *second, size_t at)
 {
@@ -116,7 +121,7 @@ static size_t record_of(const call_input *in, const call_result *second, size_t 
         return compare_lines(second->output, at) / LINES;
     if (second->code == SECOND_BAD_FIELD)
         return 0;
-    return second->report[4] + 256U * second->report[5] + 65536U * second->report[6];
+    return records_told(second);
 }
 
 static void show_difference(const call_input *in, const call_result *model, const call_result *second)
@@ -141,17 +146,42 @@ static bool is_same(const call_input *in, const call_result *model, const call_r
         && memcmp(model->report, second->report, in->report_len) == 0;
 }
 
-call_result compare_both(pipes *model, const call_input *in)
+/* Document 02, item 5, of whatever is compared. */
+static bool is_within_bound(const call_input *in, const call_result *both)
+{
+    if (both->code == SECOND_BAD_FIELD)
+        return true;
+    if (both->code == SECOND_NO_ROOM && in->output_len >= second_room(in->trace_len))
+        return false;
+    return records_told(both) <= in->trace_len / SECOND_SHORTEST_RECORD;
+}
+
+static call_result compare(pipes *model, const call_input *in, bool alarms)
 {
     call_result of_model = pipes_call(model, in);
     call_result of_second = call_replay(second_replay, in);
     /* Each model is held to the alarms first, so that what breaks them says so and not only that the models differ. */
-    if (!alarms_hold(ALARMS_MODEL, name, in, &of_model) || !alarms_hold(ALARMS_SECOND, name, in, &of_second))
+    if (alarms && (!alarms_hold(ALARMS_MODEL, name, in, &of_model) || !alarms_hold(ALARMS_SECOND, name, in, &of_second)))
         exit(1);
     if (!is_same(in, &of_model, &of_second)) {
         show_difference(in, &of_model, &of_second);
         exit(1);
     }
+    if (!is_within_bound(in, &of_second)) {
+        printf("NOT WITHIN THE BOUND: %s\ntrace %zu bytes, output %zu bytes, code %d, %zu records\n", name, in->trace_len, in->output_len,
+               of_second.code, records_told(&of_second));
+        exit(1);
+    }
     call_result_free(&of_model);
     return of_second;
+}
+
+call_result compare_both(pipes *model, const call_input *in)
+{
+    return compare(model, in, true);
+}
+
+call_result compare_bytes(pipes *model, const call_input *in)
+{
+    return compare(model, in, false);
 }

@@ -11,10 +11,14 @@ const char *compare_case(void);
 
 /*
  * Has both models called, holds the answers of each to the claims on alarms (alarms.h), and compares return value,
- * every byte of output and report, and the guards. At a claim that does not hold, or a difference, it shows the case
- * and ends the driver. Gives the answer of both.
+ * every byte of output and report, and the guards; then holds them to document 02, item 5: with room for the trace's
+ * length no code 8, with any room no more records than that length can have. At a claim that does not hold, or a
+ * difference, it shows the case and ends the driver. Gives the answer of both.
  */
 call_result compare_both(pipes *model, const call_input *in);
+
+/* The same without the claims on alarms, whose time goes with the square of the events since the latch was set. */
+call_result compare_bytes(pipes *model, const call_input *in);
 
 /* Shows a trace's records around record `number`, counted from 0, and around byte `at` of an output. */
 void compare_show_trace(const uint8_t *trace, size_t len, size_t number);

@@ -149,13 +149,16 @@ static void show_alarms(void)
 unsigned counts_show(void)
 {
     static const char *const addresses[ADDRESSES] = {"76", "77", "0", "12", "75", "78", "-1", "large"};
-    static const char *const rooms[ROOMS] = {"0", "exact", "one less", "ample", "random"};
+    static const char *const rooms[ROOMS] = {"0", "exact", "one less", "ample", "random", "33 for each 19", "32 for each 19", "33 for each 20"};
     static const char *const reports[REPORTS] = {"0", "15", "17", "16"};
     zeros = 0;
     show_seen(&second_seen_counts);
     show_alarms();
     SHOW_EACH("address", addresses, counted.address);
     SHOW_EACH("output room", rooms, counted.room);
+    show("stopped by 8", "32 for each 19", counted.stopped_32_for_19);
+    show("stopped by 8", "33 for each 20", counted.stopped_33_for_20);
+    show("records", "as many as can be", counted.most_records);
     SHOW_EACH("report length", reports, counted.report);
     show_each("trace", damage_names, counted.damage, DAMAGES);
     return zeros;

@@ -50,7 +50,7 @@ int main(int argc, char *argv[])
     printf("seed %llu, %llu generated traces\n", (unsigned long long)seed, (unsigned long long)count);
     pipes *model = pipes_start(argv + at + 1);
     uint64_t recorded = recorded_run(model, argv[at]);
-    printf("%llu recorded traces as worked out by hand\n", (unsigned long long)recorded);
+    printf("%llu recorded traces as worked out by hand, each with exactly the room that is enough too\n", (unsigned long long)recorded);
     uint64_t large = large_run(model);
     printf("%llu large traces alike\n", (unsigned long long)large);
     generated_run(model, seed, count);
@@ -61,6 +61,6 @@ int main(int argc, char *argv[])
         printf("FAILED: %u counts are zero, %llu traces recorded\n", zeros, (unsigned long long)recorded);
         return 1;
     }
-    printf("%llu passed, 0 failed\n", (unsigned long long)(recorded + large + count));
+    printf("%llu passed, 0 failed\n", (unsigned long long)(2 * recorded + large + count));
     return 0;
 }

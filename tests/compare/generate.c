@@ -437,6 +437,16 @@ generator generate_begin(randoms *random, trace *to, int32_t address)
     return g;
 }
 
+void generate_hungry(trace *to, int32_t address, int32_t count)
+{
+    generator g = {.to = to};
+    (void)second_fresh(&g.chip, address);
+    start(&g);
+    say(&g, END, 0, 0, 1);
+    for (int32_t i = 0; i < count; i++)
+        respond(&g);
+}
+
 void generate_more(generator *g)
 {
     uint32_t all = 0, chosen, at = 0;

@@ -19,4 +19,8 @@ generator generate_begin(randoms *random, trace *to, int32_t address);
 /* Adds one or a few records. */
 void generate_more(generator *g);
 
+/* The trace that needs the most output for its length: a conversion that finds the diode open, then so many alert responses, each as short as a
+   record can be and answered with as much as an answer can have. */
+void generate_hungry(trace *to, int32_t address, int32_t count);
+
 #endif

@@ -6,7 +6,8 @@
 #include <stdio.h>
 #include <stdlib.h>
 
-enum { SHORTEST = 19, LONGEST = 39 };   /* records: all numbers of one digit, or all of five and a minus */
+/* Records: all numbers of one digit, or all of five and a minus. ROOMY: as long as a trace may be for its room to be 16 MiB at most. */
+enum { SHORTEST = SECOND_SHORTEST_RECORD, LONGEST = 39, ROOMY = 9659618 };
 
 /* A record of a kind that there is not, `len` bytes long. */
 static void add_sized(trace *t, size_t len)
@@ -44,16 +45,38 @@ static trace make_trace(size_t len, unsigned padding)
     return t;
 }
 
-static void run(pipes *model, const char *what, const trace *t, size_t trace_len, size_t output_len, int32_t code)
+typedef call_result comparison(pipes *model, const call_input *in);
+
+static void run_by(comparison *compare, pipes *model, const char *what, const trace *t, size_t trace_len, size_t output_len, int32_t code)
 {
     call_input in = {76, t->bytes, trace_len, output_len, SECOND_REPORT_BYTES, trace_len + output_len};
     compare_name("large, %s", what);
-    call_result both = compare_both(model, &in);
+    call_result both = compare(model, &in);
     if (both.code != code) {
         printf("FAILED: large, %s: both models return %d, wanted %d\n", what, both.code, code);
         exit(1);
     }
     call_result_free(&both);
+}
+
+static void run(pipes *model, const char *what, const trace *t, size_t trace_len, size_t output_len, int32_t code)
+{
+    run_by(compare_both, model, what, t, trace_len, output_len, code);
+}
+
+/* The trace that needs the most, from a byte less to a byte more than what an output can be large enough for. */
+static void run_hungry(pipes *model)
+{
+    const size_t most = SECOND_MOST_BYTES, whole = ROOMY - ROOMY % SHORTEST;
+    trace t = trace_make();
+    generate_hungry(&t, 76, ROOMY / SHORTEST - 1);
+    run_by(compare_bytes, model, "as many records as can be, and their room", &t, whole, second_room(whole), SECOND_DONE);
+    run_by(compare_bytes, model, "the longest trace that has its room", &t, ROOMY, second_room(ROOMY), SECOND_MALFORMED);
+    run_by(compare_bytes, model, "a byte longer, its room over 16 MiB", &t, ROOMY + 1, second_room(ROOMY + 1), SECOND_BAD_FIELD);
+    run_by(compare_bytes, model, "a byte longer, all the room that there is", &t, ROOMY + 1, most, SECOND_NO_ROOM);
+    run_by(compare_bytes, model, "32 bytes for each 19", &t, whole, 32 * (whole / 19), SECOND_NO_ROOM);
+    run_by(compare_bytes, model, "33 bytes for each 20", &t, whole, 33 * (whole / 20), SECOND_NO_ROOM);
+    trace_free(&t);
 }
 
 uint64_t large_run(pipes *model)
@@ -69,5 +92,6 @@ uint64_t large_run(pipes *model)
     run(model, "no trace, 16 MiB of output left alone", &fits, 0, most, SECOND_DONE);
     trace_free(&fits);
     trace_free(&fills);
-    return 7;
+    run_hungry(model);
+    return 13;
 }

@@ -2,7 +2,7 @@
  * input.c - see input.h. One call of replay. The head:
  *   0   bit 0: what follows, 0 the trace as it is, 1 events; bits 4..1: the address
  *   1   the room of the output, beside what the answers take; HUGE_ROOM for 16 MiB, or one byte more
- *   2   a number for the room
+ *   2   a number for the room; with 0 in both, what is enough for the trace's length
  *   3   bits 7..4: the report's length; bits 3..0: what the buffers hold before the call
  */
 #include "input.h"
@@ -16,7 +16,7 @@
 
 #define PICK(list, number) ((list)[(number) % (sizeof(list) / sizeof *(list))])
 
-enum { HEAD = 4, HUGE_ROOM = 255, LONGEST = 33 };    /* the last: bytes of an answer */
+enum { HEAD = 4, HUGE_ROOM = 255, LONGEST = SECOND_LONGEST_ANSWER };
 
 const size_t input_head = HEAD;
 
@@ -42,21 +42,21 @@ static size_t written(const uint8_t report[SECOND_REPORT_BYTES])
     return report[12] + 256U * report[13] + 65536U * report[14];
 }
 
-/* How long the answers are if there is room for all: an answer has at most 33 bytes, a record at least 19. */
+/* How long the answers are if there is room for all. */
 static size_t answers_length(const trace *t, int32_t address)
 {
-    size_t room = 2 * t->len;
+    size_t room = second_room(t->len);
     uint8_t report[SECOND_REPORT_BYTES] = {0}, *output = call_room(room);
     (void)second_replay(address, t->bytes, t->len, output, room, report, sizeof report);
     free(output);
     return written(report);
 }
 
-static size_t room_of(const uint8_t *head, size_t exact)
+static size_t room_of(const uint8_t *head, size_t len, size_t exact)
 {
     if (head[1] == HUGE_ROOM)
         return SECOND_MOST_BYTES + head[2] % 2;
-    const size_t rooms[] = {exact + 40 + head[2], exact, exact - (exact > 0), exact + 1,
+    const size_t rooms[] = {head[2] == 0 ? second_room(len) : exact + 40 + head[2], exact, exact - (exact > 0), exact + 1,
                             exact - (exact < head[2] ? exact : head[2]), head[2], exact * head[2] / 256, 0};
     return PICK(rooms, head[1]);
 }
@@ -91,7 +91,7 @@ void input_try(pipes *model, const uint8_t *bytes, size_t len)
         events_add(&t, address, bytes + head_len, len - head_len, &met, meet);
     else
         trace_insert(&t, 0, bytes + head_len, len - head_len);
-    call_input in = {address, t.bytes, t.len, room_of(head, answers_length(&t, address)), reports[head[3] >> 4],
+    call_input in = {address, t.bytes, t.len, room_of(head, t.len, answers_length(&t, address)), reports[head[3] >> 4],
                      (head[3] & 15) * UINT64_C(0x9E3779B97F4A7C15)};
     call_result both = compare_both(model, &in);
     if (both.code == SECOND_DONE || both.code == SECOND_MALFORMED)      /* no event was left out */

@@ -21,7 +21,7 @@
 #include <stdlib.h>
 #include <string.h>
 
-enum { HEAD = 16, STEPS = 6, STEPS_AT = 4, CALLS = 60, LONGEST = 33, SHORTEST = 19 };
+enum { HEAD = 16, STEPS = 6, STEPS_AT = 4, CALLS = 60, LONGEST = SECOND_LONGEST_ANSWER };
 
 const size_t input_head = HEAD;
 
@@ -85,6 +85,14 @@ static bool is_same(const feed_input *in, const feed_result *x, const feed_resul
         && memcmp(x->output, y->output, in->room) == 0;
 }
 
+/* Document 02, item 5, by the session's own counts: its answers so far stand in the same output, or there is room for what it carries and this
+   portion. */
+static bool is_enough(const uint8_t *session, size_t len, size_t room)
+{
+    const size_t carried = session[SESSION_CARRIED_LEN], all = session_word(session + SESSION_USED) + carried + len;
+    return session_word(session + SESSION_WRITTEN) + room >= second_room(all) || room >= second_room(carried + len);
+}
+
 static void feed(session *s, size_t len, int32_t end, size_t room)
 {
     static feed_buffers buffers;
@@ -98,6 +106,10 @@ static void feed(session *s, size_t len, int32_t end, size_t room)
         exit(1);
     }
     free(library.output);
+    if (second.code == SECOND_NO_ROOM && is_enough(s->session, len, room)) {
+        printf("NOT WITHIN THE BOUND: %s\n%zu bytes from %zu on, room %zu\n", compare_case(), len, s->at, room);
+        exit(1);
+    }
 
     bool refused = second.code == 2 || second.code == 6 || second.code == 9 || s->session[SESSION_STOPPED] == 1;
     reached.calls[second.code][len > 0][end] = 1;
@@ -116,9 +128,17 @@ static void feed(session *s, size_t len, int32_t end, size_t room)
 
 /* ---- the steps ---- */
 
+/* For one call, whatever is carried. */
 static size_t enough(size_t len)
 {
-    return LONGEST * ((len + SECOND_MOST_CARRIED) / SHORTEST + 1);
+    return second_room(SECOND_MOST_CARRIED + len);
+}
+
+/* What is left of one output that is large enough for all that was offered so far; a damaged session may have answered more. */
+static size_t enough_in_one(const session *s, size_t len)
+{
+    const size_t all = second_room(s->at + len);
+    return all > s->joined_len ? all - s->joined_len : 0;
 }
 
 /* How long the answers of a call are if there is room for all. */
@@ -138,8 +158,10 @@ static size_t room_of(const session *s, size_t len, uint8_t y)
 {
     size_t exact;
     switch (y % 8) {
-    case 0: case 1: case 2:
+    case 0: case 1:
         return enough(len);
+    case 2:
+        return enough_in_one(s, len);
     case 3:
         return 0;
     case 4:
