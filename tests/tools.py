@@ -354,7 +354,7 @@ def recorded(room):
                 wrong.append(f"{name}: {text}: {refused} {reply} {alert} {therm}")
         taken += [notation_of(text) for text in found]
         wanted_back += [(name, line) for line in trace.read_text().splitlines(True)[:4 * len(found)]]
-    check(f"{seen} recorded traces are explained, {lines} lines", wrong or ([] if seen > 80 and len(roles) == 2 else ["so few"]))
+    check(f"{seen} recorded traces are explained, {lines} lines", wrong or ([] if seen > 88 and len(roles) == 2 else ["so few"]))
     source = room / "back.txt"
     source.write_text("\n".join(taken))
     code, out, said = run("trace.py", source)
