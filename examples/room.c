@@ -1,6 +1,6 @@
 /*
- * The answers to a whole trace of any length up to 16 MiB, in one output that is large enough for whatever the trace holds. Its traces are the
- * ones that need the most: a conversion that finds the diode open, and then alert responses, 19 bytes each and answered with 33.
+ * The answers to a whole trace of any length up to 16 MiB, in one output that is large enough for whatever the trace holds. The two traces
+ * need the most that one can: a conversion that finds the diode open, and then alert responses, 19 bytes each and answered with 33.
  */
 #include "dlaveth.h"
 
@@ -29,14 +29,17 @@ static int show(size_t records)
 {
     static const char *const texts[] = {"kind=6\na=0\nb=0\nc=0\n", "kind=7\na=0\nb=0\nc=1\n", "kind=5\na=0\nb=0\nc=0\n"};
     const size_t length = records * DLAVETH_RECORD_BYTES;
-    uint8_t report[DLAVETH_REPORT_BYTES] = {0}, *trace = malloc(length), *output = malloc(DLAVETH_ROOM(length));
-    int32_t code = DLAVETH_NO_ROOM;
+    uint8_t report[DLAVETH_REPORT_BYTES] = {0};
+    uint8_t *trace = malloc(length + 1), *output = malloc(DLAVETH_ROOM(length) + 1);    /* + 1: of 0 bytes there may be none */
+    int32_t code;
 
-    if (trace && output) {
-        for (size_t i = 0; i < records; i++)
-            memcpy(trace + i * DLAVETH_RECORD_BYTES, texts[i < 2 ? i : 2], DLAVETH_RECORD_BYTES);
-        code = answer(trace, length, output, report);
+    if (!trace || !output) {
+        fprintf(stderr, "no memory\n");
+        exit(1);
     }
+    for (size_t i = 0; i < records; i++)
+        memcpy(trace + i * DLAVETH_RECORD_BYTES, texts[i < 2 ? i : 2], DLAVETH_RECORD_BYTES);
+    code = answer(trace, length, output, report);
     printf("%zu bytes of trace, room %zu: code %d, %u records, %u bytes of answers\n", length, DLAVETH_ROOM(length), (int)code,
            (unsigned)number(report + 4), (unsigned)number(report + 12));
     free(trace);

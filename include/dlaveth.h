@@ -97,14 +97,15 @@ enum {
 
 /*
  * How large an output has to be: with DLAVETH_ROOM(n) bytes or more no trace of n bytes is stopped by code 8, whatever stands in it. It has
- * at most n / 19 records, each answered with at most 33 bytes; fewer for each record would be too few for some trace. With a constant n
- * it is a constant. Under 19 bytes it is 0, since no record is so short.
+ * at most n / 19 records, each answered with at most 33 bytes; with fewer for each record, or for longer ones, some trace is stopped. With
+ * a constant n it is a constant, but not one for #if. Under 19 bytes of trace it is 0: no record is so short, an array of that size is no
+ * C, and malloc may give a null pointer, which replay takes where the length is 0.
  *
  * An output that replay takes has at most 16 MiB, so this serves it up to 9659618 bytes of trace. Where DLAVETH_ROOM(n) is more than
- * DLAVETH_MOST_BYTES, hand the whole trace to a session instead, in one call with end 1 and so much output, which has no limit there
- * (examples/room.c does so); or feed it in portions, and use a small output again and again.
+ * DLAVETH_MOST_BYTES, hand the whole trace to a session instead, in one call with end 1 and an output of that size: a session's output
+ * has no limit (examples/room.c does so). Or feed it in portions, and use a small output again and again.
  */
-#define DLAVETH_ROOM(n) ((size_t)(n) / DLAVETH_RECORD_BYTES * DLAVETH_ANSWER_BYTES)
+#define DLAVETH_ROOM(n) ((size_t)(n) / DLAVETH_RECORD_BYTES * DLAVETH_ANSWER_BYTES + 0)    /* + 0: no warning where it is tested */
 
 /*
  * Replays a trace on a chip that was just powered on.
@@ -192,9 +193,9 @@ int32_t dlaveth_open(int32_t address, uint8_t *session, size_t session_len);
  * After 8 come back with room, the bytes not taken and, behind them, more of the trace if you have it: no answer is lost, and none is given
  * twice. Any room of 33 bytes or more goes on. To have no 8 at all, lend DLAVETH_ROOM(DLAVETH_CARRIED_BYTES + portion_len) bytes in each
  * call; or one output of DLAVETH_ROOM(n) bytes for the whole session, each time from where the answers so far end, n being the bytes of all
- * portions, this one too. At the end of the trace declare it, with the last portion or with an empty one: only then is a partial record
- * refused. An end that came with 8 is declared again with the bytes that are left. Behind an end that gave 0 an empty portion is code 0 and
- * changes nothing; behind one that gave 7 it is 7.
+ * portions, this one too; a byte that was not taken and comes again counts once. At the end of the trace declare it, with the last portion
+ * or with an empty one: only then is a partial record refused. An end that came with 8 is declared again with the bytes that are left.
+ * Behind an end that gave 0 an empty portion is code 0 and changes nothing; behind one that gave 7 it is 7.
  *
  * After 8 an empty portion does not fetch the answer that waits: it is code 0, or with end 1 the end of the trace where the bytes taken end.
  * The first 7 writes report and progress, a repeated one does not: have progress 0 before a call, as below, and both read alike.

@@ -67,6 +67,7 @@ static void rooms(void)
 
     for (size_t i = 0; i < sizeof lengths / sizeof *lengths; i++)
         check("DLAVETH_ROOM", DLAVETH_ROOM(lengths[i]) == wanted[i]);
+    check("it may be tested, with no warning", !DLAVETH_ROOM(lengths[1]) && (DLAVETH_ROOM(lengths[2]) ? 1 : 0));
     check("its argument may be any expression, also one that is no size_t", DLAVETH_ROOM(RECORD + RECORD) == 66 && DLAVETH_ROOM((uint8_t)255) == 429);
     for (int i = 0; i < RECORDS; i++)
         memcpy(trace + i * RECORD, texts[i < 2 ? i : 2], RECORD);

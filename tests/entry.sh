@@ -29,7 +29,7 @@ got=$(examples/run.sh room)
 g++ -Wall -Wextra -Wpedantic -Werror -fsyntax-only -x c++ include/dlaveth.h
 
 mkdir -p target/tests
-"${x86_cc[@]}" -std=c11 -Wall -Wextra -Wpedantic -Wconversion -O1 -Iinclude tests/entry.c "$x86_library" -pthread -o target/tests/entry
+"${x86_cc[@]}" -std=c11 -Wall -Wextra -Wpedantic -Wconversion -Werror -O1 -Iinclude tests/entry.c "$x86_library" -pthread -o target/tests/entry
 got=$("${x86_run[@]}" target/tests/entry) || { echo "$got"; exit 1; }
 [[ $got =~ ([0-9]+)\ passed,\ 0\ failed$ ]]
 echo "$((BASH_REMATCH[1] + 3)) passed, 0 failed"

@@ -1,4 +1,4 @@
--- No smaller room would do: what a trace of known records takes, record by record, and that any lower rate falls behind it. Assumes nothing.
+-- No lower rate would do: what a trace of known records takes, record by record, and that any lower rate falls behind it. Assumes nothing.
 use Prim.Native.Nat.{ℕ, zero, suc, _+_, _*_, _-_, _/_, _≤_, _<_}
 use native.Mathlib.Nat.{lt-of-mul-lt-mul-left, mul-add, mul-assoc, mul-comm, mul-div-le, mul-le-mul-left, mul-left-comm}
 use native.Mathlib.Omega.{arith}

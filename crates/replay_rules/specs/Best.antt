@@ -1,4 +1,4 @@
--- Document 02, item 5: no smaller room would do. A trace of the shortest records, answered with the longest answers, and every lower rate is
+-- Document 02, item 5: no lower rate would do. A trace of the shortest records, answered with the longest answers, and every lower rate is
 -- too low for it. Proofs in proofs/Best.antt. Assumes nothing.
 use Prim.Native.Nat.{ℕ, zero, suc, _+_, _*_, _/_, _≤_, _<_}
 use mathlib.Core.Path.{_≡_}
