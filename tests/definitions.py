@@ -1,7 +1,7 @@
 #!/usr/bin/env python3
 """Every definition, claim and table of the crates' specs with a digest of its text, comments aside: tests/definitions.txt. A proof shows that a claim
 holds, not that it still says what it said: one that was loosened, given a premise that nothing meets or robbed of rows is proved all the same. So a
-changed text must be renewed here, and shows as a line in what is reviewed.
+changed text must be renewed here, and shows as a line in what is reviewed. So do a file's `use` lines, which can give a name another meaning.
 
     tests/definitions.py           what is not as recorded
     tests/definitions.py make      records what stands there
@@ -17,8 +17,10 @@ NAME = re.compile(r"(?:abbrev |unfoldable )?(?:pub )?(?:record |data )?([^\s:]+)
 
 
 def blocks(text):
-    """Name and text of each definition of a file. Blank lines part them; comments and `use` lines are left out."""
+    """Name and text of each definition of a file, after its `use` lines. Blank lines part them; comments are left out."""
     lines = [line.partition("-- ")[0].rstrip() for line in text.splitlines() if not line.lstrip().startswith("--")]
+    if uses := [line for line in lines if line.startswith("use ")]:
+        yield "use", " ".join(uses)
     for block in "\n".join(line for line in lines if not re.match(r"use |pub mod ", line)).split("\n\n"):
         if words := block.split():
             yield NAME.match(block.strip())[1], " ".join(words)

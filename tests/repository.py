@@ -247,10 +247,17 @@ def sentences():
 TYPES = {"History"}
 
 
-def unproved(specs, proofs):
-    """The claims of a crate's specs that no proof has by its type."""
-    claims = re.findall(r"^abbrev pub ([A-Z]\w*) : Type 0$", specs, re.M)
-    return [name for name in claims if name not in TYPES and not re.search(rf"^pub [^\s:]+ : {name}$", proofs, re.M)]
+def proves(proof, crate, stem, name):
+    """Whether a proof's file has the claim by its type, and the name is the claim's: taken from its own file, and nothing else called so."""
+    taken = re.search(rf"^use Rattle\.{crate}\.specs\.{stem}\.{{(?:.*, )?{name}(?:, .*)?}}$", proof, re.M)
+    other = re.search(rf" as {name}\b|^\s*(?:pub |abbrev |unfoldable |record |data )+{name}\b", proof, re.M)
+    return bool(taken and not other and re.search(rf"^pub [^\s:]+ : {name}$", proof, re.M))
+
+
+def unproved(crate, specs, proofs):
+    """The claims of a crate's specs, texts by the name of their file, that no proof's file has by its type."""
+    claims = [(stem, name) for stem, text in specs.items() for name in re.findall(r"^abbrev pub ([A-Z]\w*) : Type 0$", text, re.M)]
+    return [f"{stem}.{name}" for stem, name in claims if name not in TYPES and not any(proves(proof, crate, stem, name) for proof in proofs)]
 
 
 def bench(text):
@@ -262,15 +269,20 @@ def bench(text):
 
 
 def claims():
-    check("a claim without its proof is found", differs(unproved("abbrev pub A : Type 0\nabbrev pub B : Type 0\n", "pub a : A\n"), ["B"]))
+    good = "use Rattle.c.specs.S.{A, B}\n\npub a : A\n"
+    said = {"S": "abbrev pub A : Type 0\nabbrev pub B : Type 0\n"}
+    check("a claim without its proof is found", differs(unproved("c", said, [good]), ["S.B"]))
+    for what, wrong in ("of another file", good.replace("specs.S", "specs.T")), ("renamed", good.replace("{A", "{B as A")), ("defined anew", good + "\nabbrev A : Type 0\nA = B\n"):
+        check(f"a proof of a name that is {what} is found", differs(unproved("c", said, [wrong]), ["S.A", "S.B"]))
     found, seen = [], 0
     for crate in sorted((ROOT / "crates").iterdir()):
-        specs, proofs = ["\n".join(path.read_text() for path in sorted(crate.glob(f"{sort}/**/*.antt"))) for sort in ("specs", "proofs")]
-        seen += len(re.findall(r"^abbrev pub [A-Z]\w* : Type 0$", specs, re.M))
-        found += [f"{crate.name}: {name}" for name in unproved(specs, proofs)]
+        specs, proofs = [{path.stem: path.read_text() for path in sorted(crate.glob(f"{sort}/*.antt"))} for sort in ("specs", "proofs")]
+        seen += sum(len(re.findall(r"^abbrev pub [A-Z]\w* : Type 0$", text, re.M)) for text in specs.values())
+        found += [f"{crate.name}: {name}" for name in unproved(crate.name, specs, proofs.values())]
     check(f"{seen} claims and types of the specs: each claim has its proof, by its type", found)
     good = "-- A.\nuse a.b\n\n-- \"words\"\nabbrev pub f : A\nf = x  -- why\n\npub record R : Type 0 where\n  pub a : B\n"
-    check("a file's definitions are told apart, comments aside", differs(list(blocks(good)), [("f", "abbrev pub f : A f = x"), ("R", "pub record R : Type 0 where pub a : B")]))
+    wanted = [("use", "use a.b"), ("f", "abbrev pub f : A f = x"), ("R", "pub record R : Type 0 where pub a : B")]
+    check("a file's definitions are told apart, comments aside", differs(list(blocks(good)), wanted))
     have, want = digests(), recorded()
     some = next(iter(have))
     check("a definition that is changed, gone or new is found", differs(unlike(have | {some: "0", "x X.y": "1"}, have | {"z Z.z": "2"}), sorted([f"{some}: changed", "x X.y: new", "z Z.z: gone"])))

@@ -7,8 +7,10 @@ use lib.ListN.{length}
 use borrow.Author.Tests.{le-leb, lt-leb, ne-eqb}
 use Rattle.rules.specs.declared.state.State.{State}
 use Rattle.replay_rules.specs.declared.play.Turn.the-variants.{Stopped}
-use Rattle.replay_rules.specs.Meant.{NumbersMean, PromisesMet, RoomMeans, RunsBegin, TurnsMean, WordsMean}
+use Rattle.replay_rules.specs.Meant.{NumbersMean, PromisesMet, ReportsMean, RoomMeans, RunsBegin, TurnsMean, WordsMean}
 use Rattle.replay_rules.specs.Play.{runFrom, runOf, turnOf}
+use Rattle.replay_rules.specs.Replay.{reportOf}
+use Rattle.replay_rules.proofs.Words.{word-back}
 
 pub turns-mean : TurnsMean
 unfolding turnOf
@@ -32,8 +34,18 @@ runs-begin s room = record { empty = refl; stopped = begins s room }
 pub words-mean : WordsMean
 words-mean = (refl, refl, refl)
 
+pub reports-mean : ReportsMean
+unfolding reportOf
+reports-mean p =
+    record {
+      code = λ h. word-back (p .code) h;
+      records = λ h. word-back (p .records) h;
+      used = λ h. word-back (p .used) h;
+      written = λ h. word-back (length (p .text)) h;
+    }
+
 pub room-means : RoomMeans
-room-means = (refl, refl, refl, refl)
+room-means full over h = omega (arith, h)
 
 pub numbers-mean : NumbersMean
 numbers-mean =

@@ -1,6 +1,6 @@
 -- What a turn, a run's first turn, a report's numbers and the promises mean, in other words: an error made in their definitions and in the
 -- code alike is refused here. The proofs are in proofs/Meant.antt. Assumes nothing.
-use Prim.Native.Nat.{ℕ, _<_, _≤_}
+use Prim.Native.Nat.{ℕ, _+_, _*_, _<_, _≤_}
 use mathlib.Core.Path.{_≡_}
 use mathlib.Core.List.{List, [], _∷_, _++_}
 use lib.IntN.ℤ.{pos}
@@ -16,7 +16,7 @@ use Rattle.replay_rules.specs.declared.play.Played.{Played}
 use Rattle.replay_rules.specs.declared.play.Turn.{Turn}
 use Rattle.replay_rules.specs.declared.play.Turn.the-variants.{Went, Stopped}
 use Rattle.replay_rules.specs.Play.{Ran, Run, Turned, addedOf, numbersOf, runOf, textOf, turnCode, turnOf}
-use Rattle.replay_rules.specs.Replay.{Replayed, Result, word, wordAt}
+use Rattle.replay_rules.specs.Replay.{Replayed, Result, reportOf, word, wordAt}
 use Rattle.replay_rules.specs.Room.{roomOf}
 
 -- a record whose answer fits is answered, whatever its code; one whose answer does not is code 8; no record is code 7, whatever the room
@@ -47,9 +47,19 @@ WordsMean = (word 67305985 ≡ (1 ∷ 2 ∷ 3 ∷ 4 ∷ [])) × (word 4294967295
 abbrev pub WordIsRead : Type 0
 WordIsRead = (n : ℕ) (more : List ℕ) → n < 4294967296 → wordAt (word n ++ more) 0 ≡ n
 
--- 33 bytes of room for each full 19 of trace
+-- "code, records answered, trace bytes used, output bytes written", each where it is read
+pub record Reports (p : Run) : Type 0 where
+  pub code : p .code < 4294967296 → wordAt (reportOf p) 0 ≡ p .code
+  pub records : p .records < 4294967296 → wordAt (reportOf p) 4 ≡ p .records
+  pub used : p .used < 4294967296 → wordAt (reportOf p) 8 ≡ p .used
+  pub written : length (p .text) < 4294967296 → wordAt (reportOf p) 12 ≡ length (p .text)
+
+abbrev pub ReportsMean : Type 0
+ReportsMean = (p : Run) → Reports p
+
+-- 33 bytes of room for each full 19 of trace, whatever is left over
 abbrev pub RoomMeans : Type 0
-RoomMeans = (roomOf 18 ≡ 0) × (roomOf 19 ≡ 33) × (roomOf 37 ≡ 33) × (roomOf 38 ≡ 66)
+RoomMeans = (full over : ℕ) → over < 19 → roomOf (19 * full + over) ≡ 33 * full
 
 -- document 01's numbers of the answers that are enums
 pub record Numbers : Type 0 where

@@ -5,7 +5,7 @@ use native.Mathlib.Omega.{arith}
 use mathlib.Core.Path.{_≡_, refl, sym, ap, subst, _∙_}
 use mathlib.Core.Logic.{inl, inr}
 use mathlib.Core.Bool.{Bool, cond, true, false, _&&_}
-use mathlib.Core.List.{List, [], _∷_, _++_, map}
+use mathlib.Core.List.{List, [], _∷_, _++_, flatMap}
 use lib.Dec.{eqb}
 use lib.IntN.{ℤ, natAbs}
 use lib.ListN.{drop, length, replicate, take, length-append, length-drop, length-take}
@@ -28,14 +28,14 @@ use Rattle.session_rules.specs.Portion.{Feed, feedOf, refusedWith, repor
 use Rattle.session_rules.specs.Bytes.{bytesOf, headOf, heldIn, isHeld}
 use Rattle.session_rules.specs.Calls.{Call, fed, takenAfter}
 use Rattle.session_rules.specs.Face.{Feeding, Opening, fedInto, feedInto, isEnd, isFlag, nothing, openOf}
-use Rattle.session_rules.specs.OneOutput.{Brought, FeedNoEight, FewRecords, Hand, HandsMean, IntoOne, NextCall, StillEnough, behindIt, fourCalls, handAfter, handAt, handed, offered}
+use Rattle.session_rules.specs.OneOutput.{Brought, FeedNoEight, FewRecords, Hand, HandsMean, IntoOne, NextCall, StillEnough, behindIt, fourCalls, handAfter, handAt, handed}
 use Rattle.session_rules.proofs.Calls.{eight, room-enough}
 use Rattle.session_rules.proofs.Course.{course}
 use Rattle.session_rules.proofs.Courses.{sizes}
 use Rattle.session_rules.proofs.Held.{size-bytes}
 use Rattle.session_rules.proofs.InBytes.{held-is-saved, session-is-held, zeros-are-none}
 use Rattle.session_rules.proofs.Reached.{Reached, fed-reached, opened-reached, reached, taken-size}
-use Rattle.session_rules.proofs.Sessions.{Given, carried-size, given, held, is-held}
+use Rattle.session_rules.proofs.Sessions.{Given, Held, carried-size, given, held, is-held}
 use Rattle.session_rules.proofs.Sessions.Given.{Refused, Looked}
 use Rattle.session_rules.proofs.Ways.{moved}
 
@@ -48,12 +48,12 @@ still-enough s c h e =
     room-enough s c (omega (arith, h, k .least, k .long)) e
 
 -- no more is taken than was offered
-taken-few : (cs : List Call) (s : Session) → length (takenAfter s cs) ≤ offered (map (λ c. c .portion) cs)
-unfolding takenAfter offered
+taken-few : (cs : List Call) (s : Session) → length (takenAfter s cs) ≤ length (flatMap (λ (c : Call). c .portion) cs)
+unfolding takenAfter flatMap
 taken-few [] s = omega arith
 taken-few (c ∷ cs) s =
     let f = fed s c in
-    omega (arith, length-append (take (f .taken) (c .portion)) (takenAfter (f .session) cs), length-take (f .taken) (c .portion), taken-few cs (f .session))
+    omega (arith, length-append (take (f .taken) (c .portion)) (takenAfter (f .session) cs), length-take (f .taken) (c .portion), length-append (c .portion) (flatMap (λ (x : Call). x .portion) cs), taken-few cs (f .session))
 
 pub few-records : FewRecords
 few-records address made cs =
@@ -118,10 +118,15 @@ feed-no-eight session portion end output report progress r session′ output′ 
 
 -- ---- Any calls into one output ----
 
--- bytes that are no session; or a session that calls have reached, whose answers and what is left make up the output
-data Stands (from : State) (all room : ℕ) (h : Hand) : Type 0 where
-  None : isHeld (h .session) ≡ false → Stands from all room h
-  Some : (s : Session) (taken answers : List ℕ) → Reached from s taken answers → h .session ≡ bytesOf s → length taken ≤ all → length answers + length (h .left) ≡ room → Stands from all room h
+-- a session that calls have reached, whose answers and what is left make up the output
+record Standing (from : State) (all room : ℕ) (h : Hand) : Type 0 where
+  session : Session
+  taken : List ℕ
+  answers : List ℕ
+  reached : Reached from session taken answers
+  bytes : h .session ≡ bytesOf session
+  few : length taken ≤ all
+  size : length answers + length (h .left) ≡ room
 
 -- no session has so many answers that 4 bytes do not hold their length
 text-small : {from : State} {s : Session} {taken answers : List ℕ} (k : Reached from s taken answers) (c : Call) → length (fed s c .text) < 4294967296
@@ -133,49 +138,78 @@ module _ (from : State) (all room : ℕ) (h : Hand) (b : Brought) where
   abbrev more : ℕ
   more = all + length (b .portion)
 
-  abbrev Next : Feeding → Type 0
-  Next x = NextCall more room b x × Stands from more room (behindIt x)
+  -- the call that is made
+  made-of-it : Came (heldIn (h .session)) (h .session) (b .portion) (b .end) (h .left) (b .report) (replicate 8 0) (handed h b)
+  made-of-it = came (h .session) (b .portion) (b .end) (h .left) (b .report) (replicate 8 0)
 
-  module _ {s : Session} {taken answers : List ℕ} (k : Reached from s taken answers) (e : h .session ≡ bytesOf s) (small : length taken ≤ all) (size : length answers + length (h .left) ≡ room) where
+  module _ (st : Standing from all room h) where
+    abbrev its : Session
+    its = st .session
+
     abbrev call : Call
     call = record { portion = b .portion; end = isEnd (b .end); room = length (h .left) }
 
-    never : roomOf more ≤ room → fed s call .code ≡ 8 → ⊥
-    never fits = still-enough s call (omega (arith, fits, taken-size k, k .written, small, size))
+    never : roomOf more ≤ room → fed its call .code ≡ 8 → ⊥
+    never fits = still-enough its call (omega (arith, fits, taken-size (st .reached), st .reached .written, st .few, st .size))
 
-    grown : length (taken ++ take (fed s call .taken) (b .portion)) ≤ more
-    grown = omega (arith, length-append taken (take (fed s call .taken) (b .portion)), length-take (fed s call .taken) (b .portion), small)
+    grown : length (st .taken ++ take (fed its call .taken) (b .portion)) ≤ more
+    grown = omega (arith, length-append (st .taken) (take (fed its call .taken) (b .portion)), length-take (fed its call .taken) (b .portion), st .few)
 
-    told : wordAt (reportAfter (fed s call)) 4 ≤ more / shortestRecord
+    told : wordAt (reportAfter (fed its call)) 4 ≤ more / shortestRecord
     unfolding reportAfter
-    told = let k′ = fed-reached k call in omega (arith, word-below (fed s call .session .records), k′ .held .least, taken-size k′, grown)
+    told = let k′ = fed-reached (st .reached) call in omega (arith, word-below (fed its call .session .records), k′ .held .least, taken-size k′, grown)
 
-    left : length (answers ++ fed s call .text) + length (behindIt (fedInto (fed s call) (h .left)) .left) ≡ room
+    left : length (st .answers ++ fed its call .text) + length (behindIt (fedInto (fed its call) (h .left)) .left) ≡ room
     left =
-        let text = fed s call .text in
-        let count : wordAt (word (fed s call .taken) ++ word (length text)) 4 ≡ length text = word-back (length text) (text-small k call) in
-        let rest : drop (wordAt (word (fed s call .taken) ++ word (length text)) 4) (text ++ drop (length text) (h .left)) ≡ drop (length text) (h .left) =
+        let text = fed its call .text in
+        let count : wordAt (word (fed its call .taken) ++ word (length text)) 4 ≡ length text = word-back (length text) (text-small (st .reached) call) in
+        let rest : drop (wordAt (word (fed its call .taken) ++ word (length text)) 4) (text ++ drop (length text) (h .left)) ≡ drop (length text) (h .left) =
         ap (λ (n : ℕ). drop n (text ++ drop (length text) (h .left))) count ∙ drop-append-seam text (drop (length text) (h .left)) in
-        omega (arith, length-append answers text, ap length rest, length-drop (length text) (h .left), text-fits s call, size)
+        omega (arith, length-append (st .answers) text, ap length rest, length-drop (length text) (h .left), text-fits its call, st .size)
 
-    live : {x : Feeding} → Came s (h .session) (b .portion) (b .end) (h .left) (b .report) (replicate 8 0) x → Next x
-    live (Unfit code n) = (record { never = λ fits z. n z; few = inl refl }, Some s taken answers k e (omega (arith, small)) size)
-    live (Refuses code held is) = (record { never = λ fits z. never fits (is ∙ z); few = inl refl }, Some s taken answers k e (omega (arith, small)) size)
+    -- as it was, with more offered
+    same : Standing from more room h
+    same = record { session = its; taken = st .taken; answers = st .answers; reached = st .reached; bytes = st .bytes; few = omega (arith, st .few); size = st .size }
+
+    live : {x : Feeding} → Came its (h .session) (b .portion) (b .end) (h .left) (b .report) (replicate 8 0) x → NextCall more room h b x × Standing from more room (behindIt x)
+    live (Unfit code n) = (record { never = λ fits z. n z; few = inl refl }, same)
+    live (Refuses code held is) = (record { never = λ fits z. never fits (is ∙ z); few = inl refl }, same)
     live (Feeds held) =
-        (record { never = never; few = inr told }, Some (fed s call .session) _ _ (fed-reached k call) refl grown left)
+        (record { never = never; few = inr told }, record { session = fed its call .session; taken = _; answers = _; reached = fed-reached (st .reached) call; bytes = refl; few = grown; size = left })
 
-  dead : isHeld (h .session) ≡ false → {x : Feeding} → Came (heldIn (h .session)) (h .session) (b .portion) (b .end) (h .left) (b .report) (replicate 8 0) x → Next x
-  dead none (Unfit code n) = (record { never = λ fits z. n z; few = inl refl }, None none)
+    next-live : NextCall more room h b (handed h b) × Standing from more room (behindIt (handed h b))
+    next-live =
+        let is : heldIn (h .session) ≡ its = ap heldIn (st .bytes) ∙ session-is-held its (is-held its (st .reached .held)) .loaded in
+        live (subst (λ (x : Session). Came x (h .session) (b .portion) (b .end) (h .left) (b .report) (replicate 8 0) (handed h b)) is made-of-it)
+
+  -- bytes that are no session stay so
+  dead : isHeld (h .session) ≡ false → {x : Feeding} → Came (heldIn (h .session)) (h .session) (b .portion) (b .end) (h .left) (b .report) (replicate 8 0) x
+      → NextCall more room h b x × (isHeld (x .session) ≡ false)
+  dead none (Unfit code n) = (record { never = λ fits z. n z; few = inl refl }, none)
   dead none (Refuses code held is) = no (sym none ∙ held)
   dead none (Feeds held) = no (sym none ∙ held)
 
-  next : Stands from all room h → Next (handed h b)
-  next (None none) = dead none (came (h .session) (b .portion) (b .end) (h .left) (b .report) (replicate 8 0))
-  next (Some s taken answers k e small size) =
-      let is : heldIn (h .session) ≡ s = ap heldIn e ∙ session-is-held s (is-held s (k .held)) .loaded in
-      live k e small size
-      (subst (λ (x : Session). Came x (h .session) (b .portion) (b .end) (h .left) (b .report) (replicate 8 0) (handed h b)) is
-      (came (h .session) (b .portion) (b .end) (h .left) (b .report) (replicate 8 0)))
+  next-dead : isHeld (h .session) ≡ false → NextCall more room h b (handed h b) × (isHeld (handed h b .session) ≡ false)
+  next-dead none = dead none made-of-it
+
+live-after : (bs : List Brought) {from : State} {all room : ℕ} {h : Hand} → Standing from all room h → Standing from (all + length (flatMap (λ (x : Brought). x .portion) bs)) room (handAfter h bs)
+unfolding handAfter flatMap
+live-after [] {from} {all} {room} {h} st = subst (λ (n : ℕ). Standing from n room h) (omega arith) st
+live-after (b ∷ bs) {from} {all} {room} {h} st =
+    let later = live-after bs (next-live from all room h b st .1) in
+    subst (λ (n : ℕ). Standing from n room (handAfter (behindIt (handed h b)) bs)) (omega (arith, length-append (b .portion) (flatMap (λ (x : Brought). x .portion) bs))) later
+
+dead-after : (bs : List Brought) (h : Hand) → State → isHeld (h .session) ≡ false → isHeld (handAfter h bs .session) ≡ false
+unfolding handAfter
+dead-after [] h from none = none
+dead-after (b ∷ bs) h from none = dead-after bs (behindIt (handed h b)) from (next-dead from 0 0 h b none .1)
+
+-- ---- Opened ----
+
+-- what a session's bytes count as written
+counted : (s : Session) → Held s → wordAt (bytesOf s) 12 ≡ s .written
+unfolding bytesOf headOf
+counted s h = word-back (s .written) (omega (arith, h .long, h .least, h .total))
 
 -- bytes of another length are no session
 other-length : (b : List ℕ) → eqb (length b) 256 ≡ false → isHeld b ≡ false
@@ -185,35 +219,53 @@ other-length b n = by (isHeld b) refl
     by true e = let l : length b ≡ 256 = sym (ap length (held-is-saved b e)) ∙ size-bytes (heldIn b) in no (sym n ∙ eq-eqb (length b) 256 l)
     by false e = refl
 
-made-so : (address : ℤ) → openedOf address .code ≡ 0 → madeOf address .code ≡ 0
+made-so : (address : ℤ) → openedOf address .code ≡ madeOf address .code
 unfolding openedOf
-made-so address e = e
+made-so address = refl
 
-opens : (address : ℤ) (session output : List ℕ) → Stands (madeOf address .state) 0 (length output) (handAt address session output)
-unfolding openOf
-opens address session output = by (eqb (length session) 256) refl (eqb (openedOf address .code) 0) refl
-  where
-    by : (fits : Bool) → eqb (length session) 256 ≡ fits → (made : Bool) → eqb (openedOf address .code) 0 ≡ made
-        → Stands (madeOf address .state) 0 (length output) (record { session = cond {A = Opening} fits (record { code = openedOf address .code; session = cond made (bytesOf (openedOf address .session)) (replicate 256 0) }) (record { code = 2; session = session }) .session; left = output })
-    by false n made q = None (other-length session n)
-    by true n false q = None zeros-are-none
-    by true n true q = Some (openedOf address .session) [] [] (opened-reached address (made-so address (eqb-true (openedOf address .code) 0 q))) refl (omega arith) (omega arith)
+module _ (address : ℤ) (session output : List ℕ) where
+  abbrev hand : Hand
+  hand = handAt address session output
 
-stands-after : (bs : List Brought) {from : State} {all room : ℕ} {h : Hand} → Stands from all room h → Stands from (all + offered (map (λ x. x .portion) bs)) room (handAfter h bs)
-unfolding handAfter offered
-stands-after [] {from} {all} {room} {h} st = subst (λ (n : ℕ). Stands from n room h) (omega arith) st
-stands-after (b ∷ bs) {from} {all} {room} {h} st =
-    let later = stands-after bs (next from all room h b st .1) in
-    subst (λ (n : ℕ). Stands from n room (handAfter (behindIt (handed h b)) bs)) (omega arith) later
+  -- an address that is taken, and 256 bytes
+  opens-live : eqb (length session) 256 ≡ true → eqb (openedOf address .code) 0 ≡ true → Standing (madeOf address .state) 0 (length output) hand
+  unfolding openOf
+  opens-live n q =
+      let made : madeOf address .code ≡ 0 = sym (made-so address) ∙ eqb-true (openedOf address .code) 0 q in
+      record { session = openedOf address .session; taken = []; answers = []; reached = opened-reached address made; bytes = rw (n, q); few = omega arith; size = omega arith }
+
+  opens-dead : (fits made : Bool) → eqb (length session) 256 ≡ fits → eqb (openedOf address .code) 0 ≡ made → (fits && made) ≡ false → isHeld (hand .session) ≡ false
+  unfolding openOf
+  opens-dead false made n q e = rw n (other-length session n)
+  opens-dead true false n q e = rw (n, q) zeros-are-none
+  opens-dead true true n q e = no (sym e)
+
+  module _ (bs : List Brought) where
+    abbrev all : ℕ
+    all = length (flatMap (λ (x : Brought). x .portion) bs)
+
+    abbrev now : Hand
+    now = handAfter hand bs
+
+    standing : eqb (length session) 256 ≡ true → eqb (openedOf address .code) 0 ≡ true → Standing (madeOf address .state) all (length output) now
+    standing n q = subst (λ (k : ℕ). Standing (madeOf address .state) k (length output) now) (zero-add all) (live-after bs (opens-live n q))
+
+    after : (b : Brought) (fits made : Bool) → eqb (length session) 256 ≡ fits → eqb (openedOf address .code) 0 ≡ made → NextCall (all + length (b .portion)) (length output) now b (handed now b)
+    after b true true n q = next-live (madeOf address .state) all (length output) now b (standing n q) .0
+    after b true false n q = next-dead (madeOf address .state) all (length output) now b (dead-after bs hand (madeOf address .state) (opens-dead true false n q refl)) .0
+    after b false made n q = next-dead (madeOf address .state) all (length output) now b (dead-after bs hand (madeOf address .state) (opens-dead false made n q refl)) .0
+
+    -- what the session's bytes count as written
+    whole : length session ≡ 256 → madeOf address .code ≡ 0 → wordAt (now .session) 12 + length (now .left) ≡ length output
+    whole n made =
+        let st = standing (eq-eqb (length session) 256 n) (eq-eqb (openedOf address .code) 0 (made-so address ∙ made)) in
+        let c : wordAt (now .session) 12 ≡ st .session .written = ap (λ (x : List ℕ). wordAt x 12) (st .bytes) ∙ counted (st .session) (st .reached .held) in
+        omega (arith, c, st .reached .written, st .size)
 
 pub into-one : IntoOne
-into-one address session output bs b =
-    let from = madeOf address .state in
-    let all = offered (map (λ x. x .portion) bs) in
-    let h = handAfter (handAt address session output) bs in
-    let st : Stands from all (length output) h = subst (λ (n : ℕ). Stands from n (length output) h) (zero-add all) (stands-after bs (opens address session output)) in
-    next from all (length output) h b st .0
+into-one address session output bs =
+    record { next = λ b. after address session output bs b (eqb (length session) 256) (eqb (openedOf address .code) 0) refl refl; whole = whole address session output bs }
 
 pub hands-mean : HandsMean
-unfolding examples.opened bytesOf feedInto feedOf foundOpen fourCalls frontOf handAfter headOf heldIn isHeld isSession offered openOf openedOf partial refusedWith reportAfter runFrom runOf sameBytes saveOf started stateAt
-hands-mean = record { left = refl; offers = refl }
+unfolding examples.opened bytesOf feedInto feedOf foundOpen fourCalls frontOf handAfter headOf heldIn isHeld isSession openOf openedOf partial refusedWith reportAfter runFrom runOf sameBytes saveOf started stateAt
+hands-mean = record { left = refl }

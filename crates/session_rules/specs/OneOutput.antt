@@ -3,7 +3,7 @@
 use Prim.Native.Nat.{ℕ, _+_, _/_, _≤_}
 use mathlib.Core.Path.{_≡_}
 use mathlib.Core.Logic.{_⊎_}
-use mathlib.Core.List.{List, [], _∷_, map}
+use mathlib.Core.List.{List, [], _∷_, flatMap, map}
 use lib.IntN.{ℤ}
 use lib.IntN.ℤ.{pos}
 use lib.ListN.{drop, length, replicate, take}
@@ -15,7 +15,7 @@ use Rattle.replay_rules.specs.Room.{roomOf}
 use Rattle.session_rules.specs.declared.session.Session.{Session}
 use Rattle.session_rules.specs.Bytes.{heldIn}
 use Rattle.session_rules.specs.Calls.{Call, fed, sessionAt}
-use Rattle.session_rules.specs.Face.{FeedDone, Feeding, feedInto, openOf}
+use Rattle.session_rules.specs.Face.{FeedDone, Feeding, feedInto, nothing, openOf}
 
 -- ---- By value ----
 
@@ -25,15 +25,10 @@ abbrev pub StillEnough : Type 0
 StillEnough =
     (s : Session) (c : Call) → roomOf (s .used + s .count + length (c .portion)) ≤ s .written + c .room → fed s c .code ≡ 8 → ⊥
 
--- how many bytes were offered, taken or not
-unfoldable pub offered : List (List ℕ) → ℕ
-offered [] = 0
-offered (p ∷ ps) = length p + offered ps
-
--- with any room in each call, also where the output is renewed
+-- all portions, taken or not; with any room in each call, also where the output is renewed
 abbrev pub FewRecords : Type 0
 FewRecords =
-    (address : ℤ) → madeOf address .code ≡ 0 → (cs : List Call) → sessionAt address cs .records ≤ offered (map (λ c. c .portion) cs) / shortestRecord
+    (address : ℤ) → madeOf address .code ≡ 0 → (cs : List Call) → sessionAt address cs .records ≤ length (flatMap (λ c. c .portion) cs) / shortestRecord
 
 -- ---- Of the call that C makes ----
 
@@ -73,19 +68,22 @@ handAfter h (b ∷ bs) = handAfter (behindIt (handed h b)) bs
 abbrev pub handAt : ℤ → List ℕ → List ℕ → Hand
 handAt address session output = record { session = openOf address session .session; left = output }
 
--- after any calls the next one: with room for all that was offered so far, this portion too, it is not 8; with any room its report tells no
--- more records than that many bytes can hold, or was not written
-pub record NextCall (all room : ℕ) (b : Brought) (f : Feeding) : Type 0 where
+-- the next call: with room for all that was offered so far, this portion too, it is not 8; with any room its report tells no more records than
+-- that many bytes can hold, or it was refused and nothing at all was written
+pub record NextCall (all room : ℕ) (h : Hand) (b : Brought) (f : Feeding) : Type 0 where
   pub never : roomOf all ≤ room → f .code ≡ 8 → ⊥
-  pub few : (f .report ≡ b .report) ⊎ (wordAt (f .report) 4 ≤ all / shortestRecord)
+  pub few : (f ≡ nothing (f .code) (h .session) (h .left) (b .report) (replicate 8 0)) ⊎ (wordAt (f .report) 4 ≤ all / shortestRecord)
+
+-- after any calls; and what they have written, as the session's bytes count it, and what is left make up the output
+pub record Into (address : ℤ) (session output : List ℕ) (bs : List Brought) (h : Hand) : Type 0 where
+  pub next : (b : Brought) → NextCall (length (flatMap (λ x. x .portion) bs) + length (b .portion)) (length output) h b (handed h b)
+  pub whole : length session ≡ 256 → madeOf address .code ≡ 0 → wordAt (h .session) 12 + length (h .left) ≡ length output
 
 abbrev pub IntoOne : Type 0
 IntoOne =
-    (address : ℤ) (session output : List ℕ) (bs : List Brought) (b : Brought)
-    → NextCall (offered (map (λ x. x .portion) bs) + length (b .portion)) (length output) b (handed (handAfter (handAt address session output) bs) b)
+    (address : ℤ) (session output : List ℕ) (bs : List Brought) → Into address session output bs (handAfter (handAt address session output) bs)
 
--- by hand: a record; the front of another, which is refused for its report and comes again; its rest. After each, how much is left of 99 bytes, and
--- how much was offered
+-- by hand: a record; the front of another, which is refused for its report and comes again; its rest. How much is left of 99 bytes after each
 abbrev brings : ℕ → List ℕ → Brought
 brings report portion = record { portion = portion; end = pos 0; report = replicate report 0 }
 
@@ -94,7 +92,6 @@ fourCalls = brings 16 started ∷ brings 15 (take 10 foundOpen) ∷ brings 16 (t
 
 pub record Hands (bs : List Brought) (steps : List ℕ) : Type 0 where
   pub left : map (λ n. length (handAfter (handAt (pos 76) (replicate 256 5) (replicate 99 7)) (take n bs) .left)) steps ≡ 99 ∷ 68 ∷ 68 ∷ 68 ∷ 37 ∷ []
-  pub offers : map (λ n. offered (map (λ x. x .portion) (take n bs))) steps ≡ 0 ∷ 19 ∷ 29 ∷ 39 ∷ 48 ∷ []
 
 abbrev pub HandsMean : Type 0
 HandsMean = Hands fourCalls (0 ∷ 1 ∷ 2 ∷ 3 ∷ 4 ∷ [])

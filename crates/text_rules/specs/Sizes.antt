@@ -1,5 +1,5 @@
 -- Document 02, item 5, "at least 33 output bytes for each full 19 bytes of trace": what these two are, and the other end of each. No other
--- definition has the numbers. That no record and no answer passes them and that each is met: Bounded.antt. Assumes nothing.
+-- rule has the 19 or the 33. That no record and no answer passes them and that each is met: Bounded.antt. Assumes nothing.
 use Prim.Native.Nat.{ℕ}
 
 -- a record: from one digit in each of its four lines to five behind a minus
