@@ -64,11 +64,18 @@ static void rooms(void)
     static const size_t wanted[] = {0, 0, 33, 33, 66, 660, 16777200, 16777233, 29139363};
     enum { RECORDS = 20, TRACE = RECORDS * RECORD };
     uint8_t trace[TRACE], output[DLAVETH_ROOM(TRACE)], report[16];
+    size_t once;
 
     for (size_t i = 0; i < sizeof lengths / sizeof *lengths; i++)
         check("DLAVETH_ROOM", DLAVETH_ROOM(lengths[i]) == wanted[i]);
     check("it may be tested, with no warning", !DLAVETH_ROOM(lengths[1]) && (DLAVETH_ROOM(lengths[2]) ? 1 : 0));
     check("its argument may be any expression, also one that is no size_t", DLAVETH_ROOM(RECORD + RECORD) == 66 && DLAVETH_ROOM((uint8_t)255) == 429);
+    check("it may be part of one", 2 * DLAVETH_ROOM(37) == 66 && 99 / DLAVETH_ROOM(19) == 3 && 100 - DLAVETH_ROOM(38) == 34);
+    check("it is no int, and not of 32 bits", DLAVETH_ROOM((int32_t)2000000000) == 3473684181U && DLAVETH_ROOM((size_t)1 << 40) == ((size_t)1 << 40) / 19 * 33);
+    once = 19;
+    check("its argument is worked out once", DLAVETH_ROOM(once++) == 33 && once == 20);
+    for (once = 0; once <= DLAVETH_MOST_BYTES; once += once / 97 + 1)
+        check("33 for each full 19", DLAVETH_ROOM(once) == 33 * (once / 19));
     for (int i = 0; i < RECORDS; i++)
         memcpy(trace + i * RECORD, texts[i < 2 ? i : 2], RECORD);
     for (size_t length = 0; length <= TRACE; length++) {

@@ -18,12 +18,12 @@ reply=18
 alert=0
 therm=0
 code 0: 3 records, 61 bytes of trace, 94 bytes of answers'
-got=$(examples/run.sh whole_case)
+got=$(examples/run.sh whole_case) || { echo "FAILED: the example: $got"; exit 1; }
 [[ $got == "$wanted" ]] || { echo "FAILED: the example wrote"; echo "$got"; exit 1; }
 
 wanted='380 bytes of trace, room 660: code 0, 20 records, 656 bytes of answers
 16777209 bytes of trace, room 29139363: code 0, 883011 records, 29139359 bytes of answers'
-got=$(examples/run.sh room)
+got=$(examples/run.sh room) || { echo "FAILED: the example of room: $got"; exit 1; }
 [[ $got == "$wanted" ]] || { echo "FAILED: the example of room wrote"; echo "$got"; exit 1; }
 
 g++ -Wall -Wextra -Wpedantic -Werror -fsyntax-only -x c++ include/dlaveth.h

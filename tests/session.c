@@ -812,6 +812,12 @@ static void large(void)
     free(joined);
 }
 
+static void rooms_alike(void)
+{
+    for (size_t n = 0; n <= MOST; n += n / 97 + 1)
+        check("the header's room and the second model's", DLAVETH_ROOM(n) == second_room(n));
+}
+
 /* The trace that needs the most, 16 MiB of it, into one output: four bytes of what is enough are left. With 32 bytes for each full 19, or 33 for each
    full 20, it is stopped by 8. */
 static void hungry(void)
@@ -899,6 +905,7 @@ int main(int argc, char **argv)
     partials();
     at_random(traces);
     large();
+    rooms_alike();
     hungry();
     whole_traces = recorded_traces(argv[1], cut_recorded);
     sessions = recorded_sessions(argv[1], run_recorded);
