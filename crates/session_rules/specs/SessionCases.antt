@@ -112,6 +112,11 @@ feedRows =
     row (session (1 ∷ 1 ∷ 0 ∷ 0 ∷ []) (1 ∷ 0 ∷ 0 ∷ 0 ∷ 19 ∷ 0 ∷ 0 ∷ 0 ∷ 31 ∷ 0 ∷ 0 ∷ 0 ∷ []) [] busy) [] (pos 0) (replicate 3 7)
     0 (session (1 ∷ 1 ∷ 0 ∷ 0 ∷ []) (1 ∷ 0 ∷ 0 ∷ 0 ∷ 19 ∷ 0 ∷ 0 ∷ 0 ∷ 31 ∷ 0 ∷ 0 ∷ 0 ∷ []) [] busy) (replicate 3 7) (0 ∷ 0 ∷ 0 ∷ 0 ∷ 1 ∷ 0 ∷ 0 ∷ 0 ∷ 19 ∷ 0 ∷ 0 ∷ 0 ∷ 31 ∷ 0 ∷ 0 ∷ 0 ∷ []) (0 ∷ 0 ∷ 0 ∷ 0 ∷ 0 ∷ 0 ∷ 0 ∷ 0 ∷ []) ∷
     same (session (1 ∷ 1 ∷ 0 ∷ 0 ∷ []) (1 ∷ 0 ∷ 0 ∷ 0 ∷ 19 ∷ 0 ∷ 0 ∷ 0 ∷ 31 ∷ 0 ∷ 0 ∷ 0 ∷ []) [] busy) (107 ∷ []) (pos 0) (replicate 32 7) 9 ∷
+    -- 400000 records: a byte of trace more than 39 for each, or fewer than 19; a byte of answers fewer than 31 for each, or more than 33
+    same (session (1 ∷ 0 ∷ 0 ∷ 0 ∷ []) (128 ∷ 26 ∷ 6 ∷ 0 ∷ 129 ∷ 9 ∷ 238 ∷ 0 ∷ 128 ∷ 53 ∷ 189 ∷ 0 ∷ []) [] fresh) [] (pos 0) [] 6 ∷
+    same (session (1 ∷ 0 ∷ 0 ∷ 0 ∷ []) (128 ∷ 26 ∷ 6 ∷ 0 ∷ 127 ∷ 247 ∷ 115 ∷ 0 ∷ 128 ∷ 53 ∷ 189 ∷ 0 ∷ []) [] fresh) [] (pos 0) [] 6 ∷
+    same (session (1 ∷ 0 ∷ 0 ∷ 0 ∷ []) (128 ∷ 26 ∷ 6 ∷ 0 ∷ 128 ∷ 9 ∷ 238 ∷ 0 ∷ 127 ∷ 53 ∷ 189 ∷ 0 ∷ []) [] fresh) [] (pos 0) [] 6 ∷
+    same (session (1 ∷ 0 ∷ 0 ∷ 0 ∷ []) (128 ∷ 26 ∷ 6 ∷ 0 ∷ 128 ∷ 9 ∷ 238 ∷ 0 ∷ 129 ∷ 106 ∷ 201 ∷ 0 ∷ []) [] fresh) [] (pos 0) [] 6 ∷
     -- the total: of 16777210 bytes used, 4 carried and 3 offered it is one too many; of 2 it is not
     same (session (1 ∷ 0 ∷ 0 ∷ 4 ∷ []) (32 ∷ 161 ∷ 7 ∷ 0 ∷ 250 ∷ 255 ∷ 255 ∷ 0 ∷ 0 ∷ 36 ∷ 244 ∷ 0 ∷ []) (107 ∷ 105 ∷ 110 ∷ 100 ∷ []) fresh) (61 ∷ 54 ∷ 10 ∷ []) (pos 0) (replicate 32 7) 2 ∷
     row (session (1 ∷ 0 ∷ 0 ∷ 4 ∷ []) (32 ∷ 161 ∷ 7 ∷ 0 ∷ 250 ∷ 255 ∷ 255 ∷ 0 ∷ 0 ∷ 36 ∷ 244 ∷ 0 ∷ []) (107 ∷ 105 ∷ 110 ∷ 100 ∷ []) fresh) (61 ∷ 54 ∷ []) (pos 0) (replicate 32 7)
