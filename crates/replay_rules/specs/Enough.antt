@@ -14,7 +14,7 @@ use Rattle.replay_rules.specs.Replay.{Replayed, replayOf, wordAt}
 use Rattle.replay_rules.specs.Room.{roomOf}
 
 -- whatever keeps that promise, for every address, trace, output and report: "with at least 33 output bytes for each full 19 bytes of trace,
--- code 8 is never given"; with any room the report tells as many records "at most [as] the trace length divided by 19". Code 2 writes none
+-- code 8 is never given"; with any room what the report tells as records "is at most the trace length divided by 19". Code 2 writes no report
 pub record Bound (trace output : List ℕ) (r : ℤ) (report′ : List ℕ) : Type 0 where
   pub never : roomOf (length trace) ≤ length output → r ≡ pos 8 → ⊥
   pub few : (r ≡ pos 2 → ⊥) → wordAt report′ 4 ≤ length trace / shortestRecord
