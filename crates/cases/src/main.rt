@@ -1,36 +1,28 @@
 // Runs the hand-worked cases of tests/cases.txt through the compiled chip and writes every answer. Its input is those cases as
 // numbers: a line of 30 bytes says what to do and has four numbers, each a sign and five digits behind a space.
-ghost use Rattle.std.specs.Prelude.{◌≤◌};
 
-use io::print_decimal;
-use libc::{STDIN_FILENO, STDOUT_FILENO};
+#![tactic(auto)]
+
+ghost use Rattle.std.specs.Prelude.{◌≤◌, length};
+
 use rules::answer::Answer;
 use rules::event::Numbers;
 use rules::state::State;
+use std::io::{self, Read, Write};
 
-fn put(text: &[u8]) {
-    io::write_all(STDOUT_FILENO, text);
-}
-
-fn put_number(n: u8) {
-    print_decimal(STDOUT_FILENO, n as u64);
-}
-
-fn put_level(high: bool) {
+fn put_level<W: Write>(out: &mut W, high: bool) -> io::Result<()> {
     if high {
-        put(b" 1");
+        out.write_all(b" 1")
     } else {
-        put(b" 0");
+        out.write_all(b" 0")
     }
 }
 
-fn put_answer(a: Answer) {
-    put_number(a.code);
-    put(b" ");
-    put_number(a.reply);
-    put_level(a.alert);
-    put_level(a.therm);
-    put(b"\n");
+fn put_answer<W: Write>(out: &mut W, a: Answer) -> io::Result<()> {
+    write!(out, "{} {}", a.code, a.reply)?;
+    put_level(out, a.alert)?;
+    put_level(out, a.therm)?;
+    out.write_all(b"\n")
 }
 
 // The digit at a place of the line; past its end, 0.
@@ -90,7 +82,7 @@ fn spoilt(s: State, field: u32, n: u32) -> State {
     t
 }
 
-fn event(s: State, line: &[u8]) -> State {
+fn event<W: Write>(out: &mut W, s: State, line: &[u8]) -> io::Result<State> {
     let e = Numbers {
         kind: number(line, 0),
         a: number(line, 1),
@@ -98,51 +90,66 @@ fn event(s: State, line: &[u8]) -> State {
         c: number(line, 3),
     };
     let answer = chip::step(s, e);
-    put_answer(answer);
-    answer.state
+    put_answer(out, answer)?;
+    Ok(answer.state)
 }
 
-fn begun(line: &[u8]) -> State {
+fn begun<W: Write>(out: &mut W, line: &[u8]) -> io::Result<State> {
     let made = chip::fresh(number(line, 0));
-    put(b"fresh ");
-    put_number(made.code);
-    put(b"\n");
-    made.state
+    write!(out, "fresh {}\n", made.code)?;
+    Ok(made.state)
 }
 
-fn spoil(s: State, line: &[u8]) -> State {
-    put(b"set\n");
-    spoilt(s, size(line, 0), size(line, 1))
+fn spoil<W: Write>(out: &mut W, s: State, line: &[u8]) -> io::Result<State> {
+    out.write_all(b"set\n")?;
+    Ok(spoilt(s, size(line, 0), size(line, 1)))
 }
 
-fn titled(s: State, line: &[u8]) -> State {
-    put(b"case ");
-    print_decimal(STDOUT_FILENO, size(line, 0) as u64);
-    put(b"\n");
-    s
+fn titled<W: Write>(out: &mut W, s: State, line: &[u8]) -> io::Result<State> {
+    write!(out, "case {}\n", size(line, 0))?;
+    Ok(s)
 }
 
 // One line: an event, a fresh state, a field spoilt, or a new case.
-fn row(s: State, line: &[u8]) -> State {
+fn row<W: Write>(out: &mut W, s: State, line: &[u8]) -> io::Result<State> {
     let what = digit(line, 0);
     match what {
-        0 => event(s, line),
-        1 => begun(line),
-        2 => spoil(s, line),
-        _ => titled(s, line),
+        0 => event(out, s, line),
+        1 => begun(out, line),
+        2 => spoil(out, s, line),
+        _ => titled(out, s, line),
     }
 }
 
-fn main() {
-    let mut input = io::large_buffer();
-    let n = io::read_full(STDIN_FILENO, &mut input);
+// Fills a buffer, as far as the reader goes. A read that fails counts as the end.
+fn fill<R: Read>(from: &mut R, to: &mut [u8]) -> usize
+    ensures { result ≤ length to.new }
+{
+    let mut n = 0;
+    while n < to.len() {
+        let Ok(k) = from.read(&mut to[n..]) else {
+            return n;
+        };
+        if k == 0 {
+            return n;
+        }
+        n += k;
+    }
+    n
+}
+
+fn main(rt: HostRuntime) -> io::Result<()> {
+    let mut input = [0u8; 65536];
+    let n = fill(&mut rt.reader(), &mut input);
+    let mut out = io::writer(&rt);
     let mut s = chip::fresh(0).state;
     let mut at = 0;
     while at < n {
-        s = row(s, &input[at..n]);
+        s = row(&mut out, s, &input[at..n])?;
         if n - at < 30 {
-            return;
+            return Ok(());
         }
         at += 30;
     }
+    Ok(())
 }

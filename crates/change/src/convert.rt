@@ -60,6 +60,7 @@ fn remote_converted(s: State, t: Samples) -> ChannelState
     channel_converted(remote_limits(s), remote_code(s, t.remote), remote(s))
 }
 
+#[tactic(auto, unfolding(rules::specs::Conversion::converted_of, rules::specs::Conversion::taken_of))]
 fn all_converted(s: State, t: Samples) -> State
     ensures { result ≡ all_converted s t }
 {
@@ -97,6 +98,7 @@ fn latched(t: Samples, s: State) -> State
     }
 }
 
+#[tactic(auto, unfolding(rules::specs::Conversion::converted))]
 pub fn converted(s: State, t: Samples) -> State
     ensures { result ≡ rule.converted s t }
 {

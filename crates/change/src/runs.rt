@@ -33,6 +33,7 @@ fn ones(set: bool, more: u8) -> u8
     if set { 1 + more } else { 0 }
 }
 
+#[tactic(auto, unfolding(rules::specs::Runs::needed_of))]
 fn needed(consecutive: u8) -> u8
     ensures { result ≡ needed_of consecutive }
 {

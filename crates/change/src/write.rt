@@ -39,6 +39,7 @@ fn latched_by_faults(s: State) -> State
     }
 }
 
+#[tactic(auto, unfolding(rules::specs::Write::standby_compared))]
 fn standby_compared(s: State) -> State
     ensures { result ≡ standby_compared s }
 {
@@ -66,6 +67,7 @@ fn stopped_if(was: u8, s: State) -> State
     }
 }
 
+#[tactic(auto, unfolding(rules::specs::Write::stored))]
 fn stored(s: State, register: Register, b: u8) -> State
     ensures { result ≡ rule.stored s register b }
 {
@@ -104,6 +106,7 @@ pub fn pointed(s: State, command: u8) -> State
     }
 }
 
+#[tactic(auto, unfolding(rules::specs::Write::written))]
 pub fn written(s: State, command: u8, b: u8) -> State
     ensures { result ≡ rule.written s command b }
 {

@@ -32,6 +32,7 @@ pub fn verdict(mark: Mark, fault: bool) -> Mark
     }
 }
 
+#[tactic(auto, unfolding(rules::specs::Comparisons::compared_of))]
 pub fn compared(l: Limits, c: ChannelState) -> ChannelState
     ensures { result ≡ compared_of l c }
 {

@@ -27,6 +27,7 @@ fn checked(broken: bool, c: ChannelState) -> ChannelState
 }
 
 // The channel's part of a conversion that compares it: its diode is not open.
+#[tactic(auto, unfolding(rules::specs::Conversion::converted_of, rules::specs::Conversion::taken_of))]
 pub fn converted(l: Limits, code: u16, c: ChannelState) -> ChannelState
     ensures { result ≡ converted_of l code true false c }
 {

@@ -1,16 +1,14 @@
 -- An event is what its task is: `Step.apply_of` by way of `Task.asked_of` and `Task.perform_of`. Assumes nothing.
-use Prim.Native.Nat.{ℕ}
 use mathlib.Core.Path.{◌≡◌, refl}
 use mathlib.Core.Bool.{Bool, cond, true, false}
 use lib.Dec.{eqb}
-use Rattle.rules.specs.declared.answer.Done.{Done}
 use Rattle.rules.specs.declared.event.Event.{Event}
 use Rattle.rules.specs.declared.event.Event.TheVariants.{Reset, Send, Write, Read, Receive, Respond, Start, End}
 use Rattle.rules.specs.declared.state.State.{State}
-use Rattle.rules.specs.Step.{apply_of, done, on_bus, refused}
+use Rattle.rules.specs.Step.{apply_of, refused}
 use Rattle.chip.specs.declared.task.Task.{Task}
 use Rattle.chip.specs.declared.task.Task.TheVariants.{Foreign}
-use Rattle.chip.specs.Task.{heard_of, perform_of, asked_of}
+use Rattle.chip.specs.Task.{perform_of, asked_of}
 
 -- what is done for an address: asked before the work or after it
 by : (s : State) (t : Task) (mine : Bool) → perform_of s (cond mine t Foreign) ≡ cond mine (perform_of s t) (refused 3 s)

@@ -41,6 +41,7 @@ fn responded(s: State) -> State
     }
 }
 
+#[tactic(auto, unfolding(rules::specs::Step::respond_of))]
 fn respond(s: State) -> Answer
     ensures { result ≡ respond_of s }
 {
@@ -57,6 +58,7 @@ fn started(s: State) -> State
     State { busy: true, ..s }
 }
 
+#[tactic(auto, unfolding(rules::specs::Step::start_of))]
 fn start(s: State) -> Answer
     ensures { result ≡ start_of s }
 {
@@ -67,6 +69,7 @@ fn start(s: State) -> Answer
     }
 }
 
+#[tactic(auto, unfolding(rules::specs::Step::end_of))]
 fn end(s: State, t: Samples) -> Answer
     ensures { result ≡ end_of s t }
 {
@@ -93,6 +96,7 @@ fn perform(s: State, t: Task) -> Answer
     }
 }
 
+#[tactic(auto, using(crate::proofs::Performed::performed))]
 fn apply(s: State, e: Event) -> Answer
     ensures { result ≡ apply_of s e }
 {

@@ -1,6 +1,9 @@
 // One ADT7461 as its bus sees it. `fresh` makes a state, `step` takes an event; both are total, and the last answer's state is the
 // next event's. `step_well` and `refuse_state` are a step's two halves, for a loop that asks `is_well_formed` once; that and
 // `is_alert_low` are also for whoever joins several chips.
+
+#![tactic(auto)]
+
 mod answer;
 mod event;
 mod task;
@@ -24,6 +27,7 @@ pub fn fresh(address: i32) -> Made
 }
 
 // One event: code, reply, both lines and the state after it.
+#[tactic(auto, unfolding(rules::specs::Step::step_of))]
 pub fn step(s: State, e: Numbers) -> Answer
     ensures { result ≡ step_of s e }
 {

@@ -5,7 +5,7 @@ ghost use Rattle.chip.specs.Task.{heard_of, asked_of};
 use rules::event::{Event, Samples};
 use rules::state::State;
 
-#[derive(Drop)]
+#[derive(Clone, Copy)]
 pub enum Task {
     Reset,
     Point(u8),

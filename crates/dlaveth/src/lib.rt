@@ -1,4 +1,7 @@
 // What a C program calls: all of it, and nothing else. A chip is 128 bytes that the caller lends, and an event's answer is 8.
+
+#![tactic(auto)]
+
 mod portions;
 
 ghost use Rattle.std.specs.Prelude.{◌≡◌, replicate};
@@ -21,7 +24,7 @@ fn clear(out: &mut [u8])
         return;
     }
     let zeros = [0u8; 128];
-    bytes::copy(&zeros, out);
+    out.copy_from_slice(&zeros);
 }
 
 fn place(made: Made, out: &mut [u8])
@@ -54,7 +57,7 @@ fn put_answer(out: &mut [u8], code: u8, reply: u8, alert: bool, therm: bool)
         return;
     }
     let all = [code, reply, bit(alert), bit(therm), 0, 0, 0, 0];
-    bytes::copy(&all, out);
+    out.copy_from_slice(&all);
 }
 
 // Bytes that are no saved state are code 6 and are left as they are.

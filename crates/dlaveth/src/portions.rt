@@ -18,7 +18,7 @@ fn clear_session(out: &mut [u8])
         return;
     }
     let zeros = [0u8; 256];
-    bytes::copy(&zeros, out);
+    out.copy_from_slice(&zeros);
 }
 
 fn place_session(opened: Opened, out: &mut [u8])
@@ -73,7 +73,7 @@ fn write_progress(progress: &mut [u8], taken: usize, written: usize)
         (written / 65536 % 256) as u8,
         (written / 16777216 % 256) as u8,
     ];
-    bytes::copy(&all, progress);
+    progress.copy_from_slice(&all);
 }
 
 // A refusal writes nothing in any buffer.

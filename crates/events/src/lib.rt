@@ -1,4 +1,7 @@
 // Document 01, Events: four signed numbers checked into an event, or the code that refuses them.
+
+#![tactic(auto)]
+
 ghost use Rattle.std.specs.Prelude.{◌≡◌, ◌&&◌, pos};
 ghost use Rattle.rules.specs.Event as rule;
 ghost use Rattle.rules.specs.Event.{byte_of, sample_of, samples_of, good_if, check_of, unused, is_bus_address, is_byte, is_local_sample, is_remote_sample, is_mark};

@@ -1,4 +1,7 @@
 // Document 01, Answer codes, 6: what makes a state well formed. A register that keeps all bits needs no test.
+
+#![tactic(auto)]
+
 ghost use Rattle.std.specs.Prelude.{map, ◌≡◌};
 ghost use Rattle.rules.specs.Channels.{all, channels};
 ghost use Rattle.rules.specs.PowerOn.{is_address};
@@ -35,6 +38,7 @@ fn diodes_well(s: State) -> bool
     !(s.localdiodefound | s.localdiodeflag)
 }
 
+#[tactic(auto, unfolding(rules::specs::WellFormed::well_formed))]
 pub fn well_formed(s: State) -> bool
     ensures { result ≡ well_formed s }
 {

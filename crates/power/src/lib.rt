@@ -1,4 +1,7 @@
 // Document 01, Registers, Power-on; and the fresh state of an address.
+
+#![tactic(auto)]
+
 ghost use Rattle.std.specs.Prelude.{◌≡◌};
 ghost use Rattle.rules.specs.PowerOn.{power_on, all_zero, made_at, no_state, made_of};
 

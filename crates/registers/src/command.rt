@@ -4,6 +4,7 @@ ghost use Rattle.rules.specs.Commands.{source_of, target_of};
 
 use rules::register::{Channel, Register, Source, Target};
 
+#[tactic(auto, unfolding(rules::specs::Commands::source_of))]
 pub fn source(command: u8) -> Source
     ensures { result ≡ source_of command }
 {
@@ -32,6 +33,7 @@ pub fn source(command: u8) -> Source
     }
 }
 
+#[tactic(auto, unfolding(rules::specs::Commands::target_of))]
 pub fn target(command: u8) -> Target
     ensures { result ≡ target_of command }
 {

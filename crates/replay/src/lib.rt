@@ -1,4 +1,7 @@
 // Document 01, Traces and their replay: the chip and the text joined.
+
+#![tactic(auto)]
+
 pub mod play;
 pub mod report;
 

@@ -18,7 +18,7 @@ use text_rules::answer::Wrote;
 use text_rules::record::{Parsed, Record};
 
 // How far a drive came, where code 7 says that no record stands there; or what its one event was answered.
-#[derive(Drop)]
+#[derive(Clone, Copy)]
 struct Driven {
     code: u8,
     records: usize,

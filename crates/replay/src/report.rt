@@ -28,5 +28,5 @@ pub fn write_report(report: &mut [u8], code: u8, records: usize, used: usize, wr
         (written / 65536 % 256) as u8,
         (written / 16777216 % 256) as u8,
     ];
-    bytes::copy(&all, report);
+    report.copy_from_slice(&all);
 }

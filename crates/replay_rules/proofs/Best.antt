@@ -96,26 +96,26 @@ again {s} {one} g (suc n) (suc turns) room p at h =
 abbrev fresh : State
 fresh = (made_of (pos 76)).state
 
-abbrev record_of : ℕ → ℕ → Record
-record_of kind c = record { kind = pos kind; a = pos 0; b = pos 0; c = pos c }
+abbrev short_record : ℕ → ℕ → Record
+short_record kind c = record { kind = pos kind; a = pos 0; b = pos 0; c = pos c }
 
 abbrev running : State
-running = (answer_to fresh (record_of 6 0)).state
+running = (answer_to fresh (short_record 6 0)).state
 
 abbrev broken : State
-broken = (answer_to running (record_of 7 1)).state
+broken = (answer_to running (short_record 7 1)).state
 
 known_started : Known fresh started shortest_answer running
 unfolding opened started
-known_started = record { numbers = record_of 6 0; read = refl; some = omega arith; state = refl; text = refl }
+known_started = record { numbers = short_record 6 0; read = refl; some = omega arith; state = refl; text = refl }
 
 known_open : Known running found_open shortest_answer broken
 unfolding opened found_open
-known_open = record { numbers = record_of 7 1; read = refl; some = omega arith; state = refl; text = refl }
+known_open = record { numbers = short_record 7 1; read = refl; some = omega arith; state = refl; text = refl }
 
 known_responds : Known broken responds longest_answer broken
 unfolding opened responds
-known_responds = record { numbers = record_of 5 0; read = refl; some = omega arith; state = refl; text = refl }
+known_responds = record { numbers = short_record 5 0; read = refl; some = omega arith; state = refl; text = refl }
 
 repeated_size : (n : ℕ) (one : List ℕ) → length one ≡ shortest_record → length (repeated n one) ≡ shortest_record * n
 unfolding repeated

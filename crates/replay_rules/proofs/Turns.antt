@@ -3,11 +3,9 @@
 use Prim.Native.Nat.{ℕ, ◌≤◌}
 use mathlib.Core.Path.{◌≡◌, refl, sym, ap, ◌∙◌}
 use mathlib.Core.Bool.{Bool, true, false, cond}
-use mathlib.Core.List.{List, [], ◌∷◌}
+use mathlib.Core.List.{List, []}
 use lib.ListN.{length}
 use borrow.Author.Tests.{le-leb, lt-leb}
-use types.Run.{OneOf, miss}
-use denote.Enum as E
 use Rattle.rules.specs.declared.event.Numbers.{Numbers}
 use Rattle.rules.specs.declared.state.State.{State}
 use Rattle.rules.specs.declared.answer.Answer.{Answer}
@@ -24,18 +22,21 @@ use Rattle.text_rules.specs.Answer.{Put}
 use Rattle.text_rules.specs.Sizes.{shortest_record}
 use Rattle.text_rules.proofs.Put.{put_front, put_none}
 use Rattle.text_rules.proofs.Records.{record_fits}
-use Rattle.text_rules.specs.contracts.record.Parsed as parsed
 use Rattle.replay_rules.specs.declared.play.Turn.TheVariants.{Went, Stopped}
 use Rattle.replay_rules.specs.Play.{Turned, added_from, added_of, answer_to, numbers_of, text_of, turn_from, turn_of}
 
+-- no record: neither of the parse answer's other two cases holds one
+abbrev pub Unread : Parsed → Type 0
+Unread p = (r : Record) (n : ℕ) → p ≡ Whole r n → ⊥
+
 -- no record: the parse answer's other two cases
-none : (s : State) (room : ℕ) (p : Parsed) → OneOf (1 ∷ 2 ∷ []) (E.Declared.tag_of parsed.the_type p) → (Stopped 7 ≡ turn_from s room p) × (added_from s room p ≡ [])
-none s room (Whole r n) h = absurd (miss (1 ∷ 2 ∷ []) 0 tt h)
+none : (s : State) (room : ℕ) (p : Parsed) → Unread p → (Stopped 7 ≡ turn_from s room p) × (added_from s room p ≡ [])
+none s room (Whole r n) h = absurd (h r n refl)
 none s room Part h = (refl, refl)
 none s room Malformed h = (refl, refl)
 
 module _ {s : State} {rest before after : List ℕ} where
-  pub turn_bad : {p : Parsed} → p ≡ record_of rest → OneOf (1 ∷ 2 ∷ []) (E.Declared.tag_of parsed.the_type p) → after ≡ before → Turned s rest before after (Stopped 7)
+  pub turn_bad : {p : Parsed} → p ≡ record_of rest → Unread p → after ≡ before → Turned s rest before after (Stopped 7)
   unfolding turn_of added_of
   turn_bad {p} e h same =
       record { said = rw (← e) (none s (length before) p h).0; bytes = rw (← e, (none s (length before) p h).1) same }
@@ -70,8 +71,8 @@ module _ (alone : Bool) (e : Numbers) (part : List ℕ) {p : Parsed} (next : p �
   handed : alone ≡ true → p ≡ Whole (record_for e) 0
   handed h = next ∙ rw h
 
-  pub handed_some : alone ≡ true → OneOf (1 ∷ 2 ∷ []) (E.Declared.tag_of parsed.the_type p) → ⊥
-  handed_some h k = miss (1 ∷ 2 ∷ []) 0 tt (rw (handed h) at k)
+  pub handed_some : alone ≡ true → Unread p → ⊥
+  handed_some h k = k (record_for e) 0 (handed h)
 
   module _ {r : Record} {n : ℕ} (is : p ≡ Whole r n) where
     pub handed_event : alone ≡ true → numbers_of r ≡ e

@@ -9,8 +9,6 @@ use Rattle.text_rules.specs.declared.record.Parsed.TheVariants.{Whole, Part, Mal
 use Rattle.text_rules.specs.declared.record.Record.{Record}
 use Rattle.text_rules.specs.Answer.{wrote_code}
 use Rattle.text_rules.specs.Record.{parsed_code, record_of}
-use Rattle.replay_rules.specs.declared.play.Played.{Played}
-use Rattle.replay_rules.specs.declared.play.Turn.{Turn}
 use Rattle.replay_rules.specs.declared.play.Turn.TheVariants.{Went, Stopped}
 use Rattle.replay_rules.specs.Play.{Ran, Run, Turned, added_of, numbers_of, run_of, text_of, turn_code, turn_of}
 use Rattle.replay_rules.specs.Replay.{Replayed, Result, report_of, word, word_at}

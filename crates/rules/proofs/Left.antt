@@ -13,7 +13,7 @@ use Rattle.rules.specs.declared.register.Channel.TheVariants.{Local, Remote}
 use Rattle.rules.specs.declared.register.Register.{Register}
 use Rattle.rules.specs.declared.state.Mark.{Mark}
 use Rattle.rules.specs.declared.state.State.{State}
-use Rattle.rules.specs.Alarm.{finds_limit, is_fault, view_of}
+use Rattle.rules.specs.Alarm.{is_fault, view_of}
 use Rattle.rules.specs.Comparisons.Comparator.{Therm, Therm2}
 use Rattle.rules.specs.Ended.{found, over, under}
 use Rattle.rules.specs.Event.{check_of}

@@ -1,6 +1,6 @@
 -- From power-on no event is answered with code 6: the state stays well formed, and no other answer has that code. From any state no
 -- code is above 6. Assumes nothing.
-use Prim.Native.Nat.{ℕ, ◌<◌}
+use Prim.Native.Nat.{◌<◌}
 use native.Mathlib.Omega.{arith}
 use mathlib.Core.Path.{◌≡◌, refl}
 use mathlib.Core.Bool.{Bool, true, false, cond}

@@ -37,11 +37,11 @@ use Rattle.rules.specs.Rows.{Keeps, kept_bits, kept_in, registers, row_of, same,
 use Rattle.rules.specs.Rows.Keeps.{All, Bits7652, Bits76}
 use Rattle.rules.specs.Runs.{runs_of}
 use Rattle.rules.specs.Sound.{FreshWellFormed, StepsWellFormed}
-use Rattle.rules.specs.State.{Rest, channel_at, given_of, put, rest_of, state_from, stored_of, with_busy, with_channels, with_pointer, with_rest, with_stored}
-use Rattle.rules.specs.Status.{after_status, shown_channel, shown_of}
+use Rattle.rules.specs.State.{with_latch, with_runs, Rest, channel_at, given_of, put, rest_of, state_from, stored_of, with_busy, with_channels, with_pointer, with_rest, with_stored}
+use Rattle.rules.specs.Status.{any_flag, after_status, shown_channel, shown_of}
 use Rattle.rules.specs.Values.{clamp_of, code_of, offset_of, shift_of, top_of}
 use Rattle.rules.specs.WellFormed.{diode_well, register_well, value_well, well_formed}
-use Rattle.rules.specs.Write.{all_recompared, standby_compared, stopped_if, stored, written, written_to}
+use Rattle.rules.specs.Write.{all_recompared, any_fault, standby_compared, stopped_if, stored, written, written_to}
 use Rattle.rules.proofs.Answers.{answer_has, done_of}
 use Rattle.rules.proofs.Choice.{whichever}
 use Rattle.rules.proofs.Lists.{all_true, each_true, left, no, right}
@@ -102,6 +102,23 @@ rest_well : (s : State) (p : Rest) → leb p.runs 4 ≡ true → Well s → Well
 rest_well s p n w =
     anew (given_of s) p (stored_of s) (channel_at s) (record { address = w.address; runs = n; registers_kept = w.registers_kept; channels_fit = w.channels_fit })
 
+-- one part of the rest changed
+pointer_well : (s : State) (n : ℕ) → Well s → Well (with_pointer s n)
+pointer_well s n w =
+    rest_well s (record { pointer = n; busy = s.busy; runs = s.runs; latch = s.latch }) w.runs w
+
+busy_well : (s : State) (b : Bool) → Well s → Well (with_busy s b)
+busy_well s b w =
+    rest_well s (record { pointer = s.pointer; busy = b; runs = s.runs; latch = s.latch }) w.runs w
+
+runs_well : (s : State) (n : ℕ) → leb n 4 ≡ true → Well s → Well (with_runs s n)
+runs_well s n h w =
+    rest_well s (record { pointer = s.pointer; busy = s.busy; runs = n; latch = s.latch }) h w
+
+latch_well : (s : State) (b : Bool) → Well s → Well (with_latch s b)
+latch_well s b w =
+    rest_well s (record { pointer = s.pointer; busy = s.busy; runs = s.runs; latch = b }) w.runs w
+
 channels_well : (s : State) (c : Channel → ChannelState) → ((ch : Channel) → Fit ch (c ch)) → Well s → Well (with_channels s c)
 channels_well s c h w =
     anew (given_of s) (rest_of s) (stored_of s) c (record { address = w.address; runs = w.runs; registers_kept = w.registers_kept; channels_fit = h })
@@ -134,7 +151,7 @@ recompared_fit ch l c f =
 standby_well : (s : State) → Well s → Well (standby_compared s)
 unfolding standby_compared
 standby_well s w =
-    rest_well (all_recompared s) _ w.runs
+    latch_well (all_recompared s) (s.latch || any_fault (all_recompared s))
     (channels_well s _ (λ ch. recompared_fit ch (limits_of (stored_of s) ch) (channel_at s ch) (w.channels_fit ch)) w)
 
 -- a diode's mark after a read and after a check; a channel with no diode passes the check
@@ -186,10 +203,10 @@ target_well s (Into r) b w =
     let u = with_stored s r (trim_of r b) in
     let v = stopped_if s.config u in
     let wu = stored_well s r b w in
-    let wv : Well v = whichever Well (not (standby s.config) && standby u.config) (with_busy u false) u (rest_well u _ wu.runs wu) wu in
+    let wv : Well v = whichever Well (not (standby s.config) && standby u.config) (with_busy u false) u (busy_well u false wu) wu in
     whichever Well ((row_of r).compares && standby v.config) (standby_compared v) v (standby_well v wv) wv
 target_well s OneShot b w =
-    whichever Well (standby s.config && not s.busy) (with_busy s true) s (rest_well s _ w.runs w) w
+    whichever Well (standby s.config && not s.busy) (with_busy s true) s (busy_well s true w) w
 target_well s Nowhere b w = w
 
 -- ---- A conversion ----
@@ -241,7 +258,10 @@ converted_well s t w =
     let v = counted t u in
     let small = counted_fits s.runs (found_in t u) in
     let fit : (ch : Channel) → Fit ch (converted_of (limits_of (stored_of s) ch) (code_for (stored_of s) ch (sample_at t ch)) (compared_in t ch) (broken_at t ch) (channel_at s ch)) = λ ch. converted_fit ch (limits_of (stored_of s) ch) (code_for (stored_of s) ch (sample_at t ch)) (compared_in t ch) (broken_at t ch) (channel_at s ch) (code_fits (stored_of s) ch (sample_at t ch)) (diode_checked t ch) (w.channels_fit ch) in
-    rest_well (latched_by_conversion t v) _ small (rest_well v _ small (rest_well u _ small (channels_well s _ fit w)))
+    let last = latched_by_conversion t v in
+    busy_well last false
+    (latch_well v last.latch
+    (runs_well u (runs_of s.runs (found_in t u)) small (channels_well s _ fit w)))
 
 -- ---- Each event ----
 
@@ -256,12 +276,12 @@ power_well g h =
 done_well : (s : State) (e : Event) → Well s → Well (done_of s e).state
 unfolding written read_at_pointer
 done_well s Reset w = power_well (given_of s) w.address
-done_well s (Send a n) w = rest_well s _ w.runs w
-done_well s (Write a n b) w = target_well (with_pointer s n) (target_of n) b (rest_well s _ w.runs w)
-done_well s (Read a n) w = read_well (with_pointer s n) (source_of n) (rest_well s _ w.runs w)
+done_well s (Send a n) w = pointer_well s n w
+done_well s (Write a n b) w = target_well (with_pointer s n) (target_of n) b (pointer_well s n w)
+done_well s (Read a n) w = read_well (with_pointer s n) (source_of n) (pointer_well s n w)
 done_well s (Receive a) w = read_well s (source_of s.pointer) w
-done_well s Respond w = rest_well s _ w.runs w
-done_well s Start w = rest_well s _ w.runs w
+done_well s Respond w = latch_well s (s.latch && any_flag s) w
+done_well s Start w = busy_well s true w
 done_well s (End t) w = converted_well s t w
 
 pub steps_well_formed : StepsWellFormed

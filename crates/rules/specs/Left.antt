@@ -1,6 +1,6 @@
 -- What an event leaves that neither powers the chip on nor ends a conversion, in other words than the step's and the history's: from any
 -- well-formed state, by its form, at the chip's own address. The proofs are in proofs/Left.antt. Assumes nothing.
-use Rattle.std.specs.Prelude.{ℕ, ◌≡◌, Bool, cond, ◌||◌, ◌&&◌, true, false, List, [], ◌∷◌, map, eqb}
+use Rattle.std.specs.Prelude.{ℕ, ◌≡◌, Bool, cond, ◌||◌, ◌&&◌, true, false, [], ◌∷◌, map, eqb}
 use Rattle.rules.specs.declared.event.Checked.TheVariants.{Good}
 use Rattle.rules.specs.declared.event.Event.{Event}
 use Rattle.rules.specs.declared.event.Event.TheVariants.{Send, Write, Read, Receive, Respond, Start}

@@ -1,10 +1,9 @@
 -- Document 02, item 4: pin 6 as THERM2, in the form of the bench cases' table, worked out by hand. Assumes nothing.
-use Rattle.std.specs.Prelude.{◌≡◌, true, false, List, [], ◌∷◌, ℕ, ℤ}
+use Rattle.std.specs.Prelude.{◌≡◌, true, false, List, [], ◌∷◌, ℕ}
 use Rattle.std.proofs.Math.IntN.ℤ.{pos, negsuc}
 use Rattle.rules.specs.declared.event.Numbers.{Numbers}
 use Rattle.rules.specs.declared.register.Channel.TheVariants.{Remote}
 use Rattle.rules.specs.declared.register.Register.TheVariants.{Config}
-use Rattle.rules.specs.declared.state.ChannelState.{ChannelState}
 use Rattle.rules.specs.declared.state.State.{State}
 use Rattle.rules.specs.PowerOn.{no_mark, power_on}
 use Rattle.rules.specs.State.{with_channel, with_stored}

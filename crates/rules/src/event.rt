@@ -1,5 +1,5 @@
 // Document 01, Events: an event as it arrives, four signed numbers.
-#[derive(Drop)]
+#[derive(Clone, Copy)]
 pub struct Numbers {
     pub kind: i32,
     pub a: i32,
@@ -8,7 +8,7 @@ pub struct Numbers {
 }
 
 // What a conversion measured: a sample of each channel, and whether the remote diode was open.
-#[derive(Drop)]
+#[derive(Clone, Copy)]
 pub struct Samples {
     pub local: i16,
     pub remote: i16,
@@ -16,7 +16,7 @@ pub struct Samples {
 }
 
 // An event, once checked, is one of eight forms.
-#[derive(Drop)]
+#[derive(Clone, Copy)]
 pub enum Event {
     Reset,
     Send { address: u8, command: u8 },
@@ -29,7 +29,7 @@ pub enum Event {
 }
 
 // What checking an event's numbers gives: the event, or document 01's code.
-#[derive(Drop)]
+#[derive(Clone, Copy)]
 pub enum Checked {
     Good(Event),
     Bad(u8),

@@ -1,12 +1,12 @@
 // Document 01, Registers: what the commands name.
-#[derive(Drop)]
+#[derive(Clone, Copy)]
 pub enum Channel {
     Local,
     Remote,
 }
 
 // The registers that are written and read back. The fine ones are low bytes, which hold quarters in bits 7 and 6.
-#[derive(Drop)]
+#[derive(Clone, Copy)]
 pub enum Register {
     Config,
     Rate,
@@ -25,7 +25,7 @@ pub enum Register {
 }
 
 // What a command names when it is read.
-#[derive(Drop)]
+#[derive(Clone, Copy)]
 pub enum Source {
     Stored(Register),
     Value(Channel),
@@ -37,7 +37,7 @@ pub enum Source {
 }
 
 // What a command names when it is written.
-#[derive(Drop)]
+#[derive(Clone, Copy)]
 pub enum Target {
     Stored(Register),
     OneShot,
@@ -45,7 +45,7 @@ pub enum Target {
 }
 
 // What a read finds: the register's byte, or that there is no register.
-#[derive(Drop)]
+#[derive(Clone, Copy)]
 pub enum Reading {
     Byte(u8),
     Nothing,

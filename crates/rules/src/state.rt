@@ -2,13 +2,13 @@
 // and put back field by field. The registers, the values, the address and the run count can hold what code 6 refuses.
 
 // What is given when a state is made, and kept by a reset.
-#[derive(Drop)]
+#[derive(Clone, Copy)]
 pub struct Given {
     pub address: u8,
 }
 
 // A latched status flag beside what its latest comparison found.
-#[derive(Drop)]
+#[derive(Clone, Copy)]
 pub struct Mark {
     pub found: bool,
     pub flag: bool,
@@ -16,7 +16,7 @@ pub struct Mark {
 
 // One channel but for its registers: its value, whether it was ever converted, and what comparisons left behind, the flag of THERM and
 // the mark of THERM2 among it. A channel with no diode has a clear mark of one.
-#[derive(Drop)]
+#[derive(Clone, Copy)]
 pub struct ChannelState {
     pub value: u16,
     pub converted: bool,
@@ -28,7 +28,7 @@ pub struct ChannelState {
 }
 
 // What one channel is compared with, in its own codes.
-#[derive(Drop)]
+#[derive(Clone, Copy)]
 pub struct Limits {
     pub high: u16,
     pub low: u16,
@@ -38,7 +38,7 @@ pub struct Limits {
 
 // The pointer stands last: beside the address the compiler would carry both as one number and take it apart at every event. The THERM2
 // marks stand before it, beside each other, since every answer asks for both.
-#[derive(Drop)]
+#[derive(Clone, Copy)]
 pub struct State {
     pub address: u8,
     pub config: u8,

@@ -51,6 +51,7 @@ fn channel(b: &[u8], i: u8) -> ChannelState
     }
 }
 
+#[tactic(auto, unfolding(saved_rules::specs::Layout::state_at))]
 pub fn load(b: &[u8]) -> State
     ensures { result ≡ state_at b.now }
 {

@@ -24,6 +24,7 @@ fn high(v: u16) -> u8
 }
 
 // The 42 bytes that have a meaning, the layout's number first.
+#[tactic(auto, unfolding(saved_rules::specs::Layout::front_of))]
 fn front(s: State) -> [u8; 42]
     ensures { result ≡ front_of s }
 {
@@ -97,7 +98,8 @@ fn write_front(s: State, out: &mut [u8])
         return;
     }
     let bytes = front(s);
-    bytes::copy(&bytes, out);
+    let begin = &mut out[..42];
+    begin.copy_from_slice(&bytes);
 }
 
 // A state saved.
@@ -125,5 +127,5 @@ pub fn save(s: State, out: &mut [u8])
         return;
     }
     let all = saved(s);
-    bytes::copy(&all, out);
+    out.copy_from_slice(&all);
 }

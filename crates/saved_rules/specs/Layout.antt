@@ -1,6 +1,5 @@
 -- A saved chip: 128 bytes, the layout's number first, and 0 where a byte has no meaning. Assumes nothing.
 use Rattle.std.specs.Prelude.{ℕ, ◌+◌, ◌*◌, ◌/◌, ◌%◌, Bool, cond, true, false, ◌&&◌, List, [], ◌∷◌, ◌++◌, map, eqb, drop, get_or, length, replicate}
-use Rattle.rules.specs.declared.register.Channel.{Channel}
 use Rattle.rules.specs.declared.register.Channel.TheVariants.{Local, Remote}
 use Rattle.rules.specs.declared.register.Register.{Register}
 use Rattle.rules.specs.declared.state.ChannelState.{ChannelState}

@@ -5,6 +5,7 @@ ghost use Rattle.saved_rules.specs.Layout.{same_bytes};
 ghost use Rattle.session_rules.specs.Bytes.{bytes_of, bytes_over, head_of, held_in, marks_of};
 ghost use Rattle.session_rules.specs.Session.{padded};
 
+use crate::copy;
 use crate::window::{least, packed};
 use saved::load::{byte, flag, load};
 use saved::save::{bit, same, save};
@@ -79,8 +80,8 @@ fn head(s: Session) -> [u8; 128]
     let rest = kept(&carried, s.count);
     let first = marks(s);
     let mut all = [0u8; 128];
-    bytes::copy(&first, &mut all);
-    bytes::copy(&rest, &mut all[16..]);
+    copy(&first, &mut all);
+    copy(&rest, &mut all[16..]);
     all
 }
 
@@ -90,7 +91,7 @@ fn saved_session(s: Session) -> [u8; 256]
     let front = head(s);
     let chip = s.chip;
     let mut all = [0u8; 256];
-    bytes::copy(&front, &mut all);
+    copy(&front, &mut all);
     save(chip, &mut all[128..]);
     all
 }
@@ -111,5 +112,5 @@ pub fn save_session(s: Session, out: &mut [u8])
         return;
     }
     let all = saved_session(s);
-    bytes::copy(&all, out);
+    copy(&all, out);
 }

@@ -12,6 +12,7 @@ use session_rules::session::{Fed, Session};
 const MOST: usize = 16777216;
 
 // 6, 9, 7 or 2, in this order; 0 where the portion is looked at.
+#[tactic(auto, unfolding(session_rules::specs::Portion::refused_with))]
 pub fn refused_with(s: Session, size: usize) -> u8
     ensures { result ≡ refused_with s size }
 {

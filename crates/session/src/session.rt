@@ -10,6 +10,7 @@ use text_rules::sizes::{LONGEST_ANSWER, LONGEST_RECORD, SHORTEST_ANSWER, SHORTES
 
 const MOST: usize = 16777216;
 
+#[tactic(auto, unfolding(session_rules::specs::Session::opened_of))]
 pub fn open(address: i32) -> Opened
     ensures { result ≡ opened_of address }
 {
@@ -74,6 +75,7 @@ fn end_fits(s: Session) -> bool
     }
 }
 
+#[tactic(auto, unfolding(session_rules::specs::Session::is_session))]
 pub fn is_session(s: Session) -> bool
     ensures { result ≡ is_session s }
 {

@@ -3,6 +3,7 @@ ghost use Rattle.std.specs.Prelude.{min, ◌≡◌, ◌++◌, drop};
 ghost use Rattle.session_rules.specs.Session.{padded, partial};
 ghost use Rattle.session_rules.specs.Portion.{window_of};
 
+use crate::copy;
 use session_rules::session::Window;
 use text::record::read_record;
 use text_rules::record::Parsed;
@@ -20,8 +21,8 @@ pub fn window(a: &[u8], b: &[u8]) -> Window
     let n = least(39, a.len());
     let k = least(39 - n, b.len());
     let mut bytes = [0u8; 39];
-    bytes::copy(&a[..n], &mut bytes);
-    bytes::copy(&b[..k], &mut bytes[n..]);
+    copy(&a[..n], &mut bytes);
+    copy(&b[..k], &mut bytes[n..]);
     Window {
         bytes,
         count: n + k,
@@ -40,6 +41,7 @@ pub fn window_at(a: &[u8], b: &[u8], at: usize) -> Window
     window(&a[n..], &b[k..])
 }
 
+#[tactic(auto, unfolding(session_rules::specs::Session::partial))]
 pub fn is_part(s: &[u8]) -> bool
     ensures { result ≡ partial s.now }
 {
@@ -57,6 +59,6 @@ pub fn packed(s: &[u8]) -> [u8; 38]
 {
     let n = least(38, s.len());
     let mut all = [0u8; 38];
-    bytes::copy(&s[..n], &mut all);
+    copy(&s[..n], &mut all);
     all
 }

@@ -1,15 +1,15 @@
 -- What is claimed of portions one after the other, by the invariant of a session that calls have reached. Assumes nothing.
-use Prim.Native.Nat.{ℕ, min, ◌+◌, ◌*◌, ◌-◌, ◌/◌, ◌≤◌, ◌<◌}
+use Prim.Native.Nat.{ℕ, min, ◌+◌, ◌-◌, ◌≤◌, ◌<◌}
 use native.Mathlib.Omega.{arith}
 use mathlib.Core.Path.{◌≡◌, refl, sym, ap, subst, ◌∙◌}
 use mathlib.Core.Logic.{◌⊎◌, inl, inr, ⊎_elim}
-use mathlib.Core.Bool.{Bool, cond, true, false, not, ◌&&◌, ◌||◌, or-false, or-true}
+use mathlib.Core.Bool.{Bool, cond, true, false, ◌||◌, or-false, or-true}
 use mathlib.Core.List.{List, [], ◌∷◌, ◌++◌, append_assoc, append-nil, map}
 use lib.Dec.{eqb, ltb}
 use lib.IntN.{ℤ}
-use lib.ListN.{length, drop, take, length-append, length-drop, length-take, take-append-drop}
+use lib.ListN.{length, drop, take, length-append, length-take, take-append-drop}
 use lib.Seq.{drop_at, take-add, take_all, take-take}
-use borrow.Author.Tests.{eq-eqb, eqb-true, le-ltb, ltb-true, ne_eqb}
+use borrow.Author.Tests.{ltb-true, ne_eqb}
 use Rattle.rules.specs.declared.state.State.{State}
 use Rattle.rules.specs.Alarm.{Demand, Shows}
 use Rattle.rules.specs.PowerOn.{made_of}
@@ -24,15 +24,15 @@ use Rattle.replay_rules.specs.Room.{room_of}
 use Rattle.replay_rules.proofs.Alarms.{replay_no_alarm_lost}
 use Rattle.replay_rules.proofs.Room.{no_eight}
 use Rattle.session_rules.specs.declared.session.Session.{Session}
-use Rattle.session_rules.specs.Session.{carried_of, end_fits, is_session, opened_of}
-use Rattle.session_rules.specs.Portion.{Feed, feed_of, refused_with, report_after, stopped_at}
-use Rattle.session_rules.specs.Calls.{BadAtOnce, Call, Cut, CutsAreTheTrace, EightMeans, EndIsWhole, EveryMoment, GetsOn, HoweverCut, Offer, OneReplay, RoomEnough, SessionNoAlarmLost, StaysSession, Waiting, answers_at, calls_at, calls_of, fed, last_at, offered, opened, session_after, session_at, taken_after, taken_at}
+use Rattle.session_rules.specs.Session.{carried_of, is_session, opened_of}
+use Rattle.session_rules.specs.Portion.{Feed, report_after, stopped_at}
+use Rattle.session_rules.specs.Calls.{BadAtOnce, Call, CutsAreTheTrace, EightMeans, EndIsWhole, EveryMoment, GetsOn, HoweverCut, Offer, OneReplay, RoomEnough, SessionNoAlarmLost, StaysSession, Waiting, answers_at, calls_at, calls_of, fed, last_at, offered, opened, session_after, session_at, taken_after, taken_at}
 use Rattle.session_rules.proofs.Course.{after, after_halt, course, halt, run_lacks, same_run}
 use Rattle.session_rules.proofs.Course.Lacking.{Never}
 use Rattle.session_rules.proofs.Courses.{course_more, course_room, sizes, text_size}
-use Rattle.session_rules.proofs.Ways.{Moved, Way, moved, moved_back, part_nil}
+use Rattle.session_rules.proofs.Ways.{Way, moved, moved_back, part_nil}
 use Rattle.session_rules.proofs.Ways.Way.{Through, Waits, Bad, Full}
-use Rattle.session_rules.proofs.Sessions.{Given, Held, Open, Why, carried_size, given, held, is_held, not_ended}
+use Rattle.session_rules.proofs.Sessions.{Given, Held, Open, carried_size, given, held, is_held, not_ended}
 use Rattle.session_rules.proofs.Sessions.Given.{Refused, Looked}
 use Rattle.session_rules.proofs.Sessions.Why.{Strange, Late, Again, Over, Not}
 use Rattle.session_rules.proofs.Reached.{Reached, answers_fit, fed_reached, join, now, reached, stand, taken_size}

@@ -39,8 +39,8 @@ over s p = rw (lt-leb (s.used + s.count) 16777216 p) (and-false (before s))
 few : (s : Session) → s.used < s.records → false ≡ counts_fit s
 few s p = rw (lt-leb (shortest_record * s.records) s.used (omega arith))
 
-pub too_large : (s : Session) → too_large s ≡ true → false ≡ counts_fit s
-too_large s e =
+pub too_large_is : (s : Session) → too_large s ≡ true → false ≡ counts_fit s
+too_large_is s e =
     either _ _ e
     (λ f. either _ _ f
     (λ g. over s (let p = ltb-true 16777216 s.used g in omega arith))

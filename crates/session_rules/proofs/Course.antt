@@ -6,8 +6,8 @@ use mathlib.Core.Path.{◌≡◌, refl, sym, ap, subst, ◌∙◌}
 use mathlib.Core.Bool.{Bool, true, false, cond}
 use mathlib.Core.List.{List, [], ◌∷◌, ◌++◌, append_assoc, append-nil}
 use lib.Dec.{eqb, leb}
-use lib.ListN.{length, drop, length-append, length-drop}
-use borrow.Author.Tests.{eqb-true, eqb-false, le-leb, lt-leb, leb-true, leb-false, ne_eqb}
+use lib.ListN.{length, drop, length-drop}
+use borrow.Author.Tests.{le-leb, lt-leb, leb-true, leb-false, ne_eqb}
 use Rattle.rules.specs.declared.state.State.{State}
 use Rattle.text_rules.specs.declared.record.Record.{Record}
 use Rattle.text_rules.specs.declared.record.Parsed.{Parsed}
@@ -15,7 +15,7 @@ use Rattle.text_rules.specs.declared.record.Parsed.TheVariants.{Whole, Part, Mal
 use Rattle.text_rules.specs.Record.{record_of}
 use Rattle.text_rules.proofs.Records.{record_fits}
 use Rattle.replay_rules.specs.declared.play.Turn.{Turn}
-use Rattle.replay_rules.specs.Play.{Run, added_of, answer_to, begun, ended, on_turn, run_from, run_of, text_of, turn_of, went}
+use Rattle.replay_rules.specs.Play.{Run, added_of, answer_to, begun, ended, run_from, run_of, text_of, turn_of, went}
 use Rattle.replay_rules.proofs.Came.{Came, came, onward}
 use Rattle.replay_rules.proofs.Came.Came.{On, Full, Bad}
 

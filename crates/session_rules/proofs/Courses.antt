@@ -1,19 +1,19 @@
 -- What is shown of a run by its course. Assumes nothing.
 use Prim.Native.Nat.{ℕ, ◌+◌, ◌*◌, ◌-◌, ◌≤◌, ◌<◌}
-use native.Mathlib.Nat.{sub-add-eq, sub-zero}
+use native.Mathlib.Nat.{sub-zero}
 use native.Mathlib.Omega.{arith}
-use mathlib.Core.Path.{◌≡◌, refl, sym, ap, subst, ◌∙◌}
+use mathlib.Core.Path.{◌≡◌, refl, sym, ap, ◌∙◌}
 use mathlib.Core.Bool.{true}
 use mathlib.Core.Logic.{◌⊎◌, inl, inr}
-use mathlib.Core.List.{List, [], ◌∷◌, ◌++◌}
-use lib.ListN.{length, drop, take, length-append, length-drop, take-append-drop}
-use lib.Seq.{drop-append-le, drop-append_seam, drop-drop, take-add, length-take-le, drop_at}
+use mathlib.Core.List.{List, [], ◌++◌}
+use lib.ListN.{length, drop, take, length-append, length-drop}
+use lib.Seq.{drop-append-le, drop-drop, take-add, length-take-le, drop_at}
 use Rattle.rules.specs.declared.state.State.{State}
 use Rattle.rules.specs.WellFormed.{well_formed}
 use Rattle.rules.proofs.NeverSix.{step_code}
 use Rattle.rules.proofs.WellFormed.{steps_well_formed}
 use Rattle.text_rules.specs.declared.record.Record.{Record}
-use Rattle.text_rules.specs.declared.record.Parsed.TheVariants.{Whole, Part, Malformed}
+use Rattle.text_rules.specs.declared.record.Parsed.TheVariants.{Whole, Part}
 use Rattle.text_rules.specs.Record.{record_of}
 use Rattle.text_rules.specs.Sizes.{longest_answer, longest_record, shortest_answer, shortest_record}
 use Rattle.text_rules.proofs.Bounded.{part_ends_inside, record_is_bounded}
@@ -21,7 +21,7 @@ use Rattle.text_rules.proofs.More.{whole_stays}
 use Rattle.text_rules.proofs.Records.{record_fits}
 use Rattle.text_rules.proofs.Size.{answer_long, answer_short}
 use Rattle.replay_rules.specs.Play.{Run, answer_to, ended, numbers_of, run_of, text_of}
-use Rattle.session_rules.proofs.Course.{Course, Lacking, after, after_after, course, halt, halt_after, one, run_end, run_goes, run_lacks, run_tight}
+use Rattle.session_rules.proofs.Course.{Course, Lacking, after, after_after, halt_after, one, run_end, run_goes, run_lacks}
 use Rattle.session_rules.proofs.Course.Course.{End, Lacks, Tight, Goes}
 
 -- no answer is shorter or longer than there are

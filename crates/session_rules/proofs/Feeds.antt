@@ -1,27 +1,26 @@
 -- A portion's ways out, from what its calls give: the play over what is carried and the portion, and the window on what is left. Assumes
 -- nothing.
-use Prim.Native.Nat.{ℕ, zero, suc, min, ◌+◌, ◌-◌, ◌*◌, ◌≤◌, ◌<◌}
+use Prim.Native.Nat.{ℕ, zero, suc, min, ◌+◌, ◌-◌, ◌≤◌, ◌<◌}
 use native.Mathlib.Nat.{sub-zero}
 use native.Mathlib.Numerals.{unary_clauses}
 use native.Mathlib.Omega.{arith}
-use mathlib.Core.Path.{◌≡◌, refl, sym, ap, subst, ◌∙◌}
+use mathlib.Core.Path.{◌≡◌, refl, sym, ap, ◌∙◌}
 use mathlib.Core.Bool.{Bool, cond, true, false, ◌&&◌, ◌||◌}
 use mathlib.Core.List.{List, [], ◌∷◌, ◌++◌}
 use lib.Dec.{eqb}
-use lib.ListN.{length, drop, replicate, take, length-append, length-drop, length-take, drop_of_length-le}
-use lib.Seq.{take_all, take-append_seam, take-nil}
-use borrow.Author.Tests.{eq-eqb, eqb-true, ne_eqb}
+use lib.ListN.{length, drop, take, length-append, length-drop, length-take}
+use lib.Seq.{take_all, take-nil}
+use borrow.Author.Tests.{eqb-true, ne_eqb}
 use Rattle.text_rules.specs.declared.record.Parsed.TheVariants.{Part}
 use Rattle.text_rules.specs.Record.{record_of}
 use Rattle.text_rules.proofs.Bounded.{part_is_bounded, window_decides}
 use Rattle.replay_rules.specs.declared.play.Played.{Played}
 use Rattle.replay_rules.specs.Play.{Ran, Run, run_of}
-use Rattle.session_rules.specs.declared.session.Fed.{Fed}
 use Rattle.session_rules.specs.declared.session.Session.{Session}
 use Rattle.session_rules.specs.declared.session.Window.{Window}
 use Rattle.session_rules.specs.Session.{carried_of, is_part, padded, partial}
-use Rattle.session_rules.specs.Portion.{Feed, FedOn, all_taken, feed_of, moved_on, refusal, refused_with, settled, stopped_at, waits, window_of}
-use Rattle.session_rules.proofs.Course.{Course, course}
+use Rattle.session_rules.specs.Portion.{Feed, FedOn, all_taken, feed_of, moved_on, refused_with, settled, stopped_at, waits, window_of}
+use Rattle.session_rules.proofs.Course.{course}
 use Rattle.session_rules.proofs.Courses.{Stop, course_stop, sizes}
 use Rattle.session_rules.proofs.Courses.Stop.{AtEnd, NoRecord, NoRoom}
 use Rattle.session_rules.proofs.Windows.{drop_min, shown_count, shown_fits, shown_is}

@@ -1,7 +1,7 @@
 -- A session in bytes is the session: by the places of its bytes. Assumes nothing.
-use Prim.Native.Nat.{ℕ, ◌+◌, ◌*◌, ◌-◌, ◌/◌, ◌%◌, ◌≤◌, ◌<◌}
+use Prim.Native.Nat.{ℕ, ◌+◌, ◌*◌, ◌-◌, ◌/◌, ◌%◌}
 use native.Mathlib.Omega.{arith}
-use mathlib.Core.Path.{◌≡◌, refl, sym, ap, subst, ◌∙◌}
+use mathlib.Core.Path.{◌≡◌, refl, sym, ap, ◌∙◌}
 use mathlib.Core.Bool.{Bool, cond, true, false, ◌&&◌, and-false}
 use mathlib.Core.List.{List, [], ◌∷◌, ◌++◌, append_assoc, append-nil, map}
 use lib.Dec.{eqb}
@@ -10,21 +10,20 @@ use lib.IntN.ℤ.{negsuc, pos}
 use lib.ListN.{drop, get_or, length, replicate, take, length-append, length-replicate, length-take}
 use lib.Seq.{drop_at, take_at}
 use borrow.Author.Tests.{eq-eqb, eqb-false, eqb-true, ne_eqb}
-use Rattle.rules.specs.PowerOn.{made_of}
 use Rattle.saved_rules.specs.Layout.{flag, is_set, same_bytes, save_of, state_at}
 use Rattle.saved_rules.proofs.Same.{are_same, same_self}
 use Rattle.saved_rules.proofs.Saved.{saved_is_loaded}
-use Rattle.replay_rules.specs.Replay.{word, word_at}
+use Rattle.replay_rules.specs.Replay.{word_at}
 use Rattle.replay_rules.proofs.Words.{word_back}
 use Rattle.session_rules.specs.declared.session.Session.{Session}
 use Rattle.session_rules.specs.Session.{carried_of, is_session, opened_of, padded}
 use Rattle.session_rules.specs.Portion.{Feed, feed_of, refused_with, report_after}
-use Rattle.session_rules.specs.Calls.{Call, session_after, session_at}
+use Rattle.session_rules.specs.Calls.{session_after}
 use Rattle.session_rules.specs.Bytes.{bytes_of, head_of, held_in, is_held, marks_of}
 use Rattle.session_rules.specs.Face.{Feeding, Opening, feed_into, is_end, is_flag, nothing, open_of}
 use Rattle.session_rules.specs.InBytes.{CallsInBytes, FeedIsFed, FeedsAs, HeldIsSaved, Lent, OpenMeans, PromisesMet, BytesRefused, Refuses, Restored, SessionIsHeld, ZerosAreNone, bytes_after, call_of, lent_to}
 use Rattle.session_rules.proofs.Portions.{refused, same_session}
-use Rattle.session_rules.proofs.Sessions.{Held, carried_size, fed_held, given, held, is_held, opened_held}
+use Rattle.session_rules.proofs.Sessions.{Held, fed_held, given, held, is_held as was_held, opened_held}
 
 flag_back : (t : Bool) → is_set (flag t) ≡ t
 flag_back true = refl
@@ -200,7 +199,7 @@ one_call : (s : Session) → Held s → (l : Lent) → (lent_to (bytes_of s) l).
 one_call s h l = by (eqb (refused_with s (length l.portion)) 0) refl
   where
     k : FeedsAs s l.portion l.end l.output l.report l.progress (feed_of s l.portion l.end (length l.output))
-    k = feed_is_fed s (is_held s h) l.portion l.end l.output l.report l.progress l.sixteen l.eight
+    k = feed_is_fed s (was_held s h) l.portion l.end l.output l.report l.progress l.sixteen l.eight
 
     same : (code : ℕ) → refused_with s (length l.portion) ≡ code → eqb code 0 ≡ false → (feed_of s l.portion l.end (length l.output)).session ≡ s
     same code e n = ap (λ (f : Feed). f.session) (refused s l.portion l.end (length l.output) code e n)

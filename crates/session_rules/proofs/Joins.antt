@@ -1,7 +1,7 @@
 -- A play over two parts that stand one behind the other, under way: `Midway` is the loop's invariant. Each turn plays the 39 bytes that stand
 -- next, or all that is left. Assumes nothing.
 use Prim.Native.Nat.{ℕ, ◌+◌, ◌*◌, ◌-◌, ◌≤◌, ◌<◌}
-use native.Mathlib.Nat.{sub-add-eq, sub-zero}
+use native.Mathlib.Nat.{sub-zero}
 use native.Mathlib.Omega.{arith}
 use mathlib.Core.Path.{◌≡◌, refl, sym, ap, subst, ◌∙◌}
 use mathlib.Core.Bool.{Bool, true, false, ◌||◌}
@@ -12,8 +12,6 @@ use borrow.Author.Tests.{eqb-false, eqb-true}
 use lib.ListN.{length, drop, take, length-append, length-drop, length-take, take-append-drop}
 use lib.Seq.{drop-append-le, drop-drop}
 use Rattle.rules.specs.declared.state.State.{State}
-use Rattle.text_rules.specs.declared.record.Parsed.TheVariants.{Part, Malformed}
-use Rattle.text_rules.specs.Record.{record_of}
 use Rattle.text_rules.specs.Answer.{Front}
 use Rattle.text_rules.specs.Sizes.{shortest_record}
 use Rattle.text_rules.proofs.Bounded.{window_decides}
@@ -21,7 +19,7 @@ use Rattle.text_rules.proofs.More.{whole_stays}
 use Rattle.text_rules.proofs.Records.{record_fits}
 use Rattle.text_rules.proofs.Put.{front_length, front_none, front_then, rest}
 use Rattle.replay_rules.specs.declared.play.Played.{Played}
-use Rattle.replay_rules.specs.Play.{Ran, Run, ended, run_of}
+use Rattle.replay_rules.specs.Play.{Ran, Run, run_of}
 use Rattle.replay_rules.proofs.Plays.{back, from}
 use Rattle.session_rules.specs.declared.session.Window.{Window}
 use Rattle.session_rules.specs.Portion.{window_of}

@@ -27,7 +27,7 @@ use Rattle.session_rules.specs.Session.{carried_of, is_session, opened_of, parti
 use Rattle.session_rules.specs.Portion.{Feed, feed_of, refused_with, report_after}
 use Rattle.session_rules.specs.Bytes.{bytes_of, head_of, held_in, is_held}
 use Rattle.session_rules.specs.Calls.{Call, fed, taken_after}
-use Rattle.session_rules.specs.Face.{Feeding, Opening, fed_into, feed_into, is_end, is_flag, nothing, open_of}
+use Rattle.session_rules.specs.Face.{Feeding, fed_into, feed_into, is_end, is_flag, nothing, open_of}
 use Rattle.session_rules.specs.OneOutput.{Brought, FeedNoEight, FewRecords, Hand, HandsMean, IntoOne, NextCall, StillEnough, behind_it, four_calls, hand_after, hand_at, handed}
 use Rattle.session_rules.proofs.Calls.{eight, room_enough}
 use Rattle.session_rules.proofs.Course.{course}
@@ -35,7 +35,7 @@ use Rattle.session_rules.proofs.Courses.{sizes}
 use Rattle.session_rules.proofs.Held.{size_bytes}
 use Rattle.session_rules.proofs.InBytes.{held_is_saved, session_is_held, zeros_are_none}
 use Rattle.session_rules.proofs.Reached.{Reached, fed_reached, opened_reached, reached, taken_size}
-use Rattle.session_rules.proofs.Sessions.{Given, Held, carried_size, given, held, is_held}
+use Rattle.session_rules.proofs.Sessions.{Given, Held, carried_size, given, held, is_held as was_held}
 use Rattle.session_rules.proofs.Sessions.Given.{Refused, Looked}
 use Rattle.session_rules.proofs.Ways.{moved}
 
@@ -179,7 +179,7 @@ module _ (from : State) (all room : ℕ) (h : Hand) (b : Brought) where
 
     next_live : NextCall more room h b (handed h b) × Standing from more room (behind_it (handed h b))
     next_live =
-        let is : held_in h.session ≡ its = ap held_in st.bytes ∙ (session_is_held its (is_held its st.reached.held)).loaded in
+        let is : held_in h.session ≡ its = ap held_in st.bytes ∙ (session_is_held its (was_held its st.reached.held)).loaded in
         live (subst (λ (x : Session). Came x h.session b.portion b.end h.left b.report (replicate 8 0) (handed h b)) is made_of_it)
 
   -- bytes that are no session stay so

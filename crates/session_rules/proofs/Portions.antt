@@ -3,12 +3,12 @@ use Prim.Native.Nat.{ℕ, ◌+◌, ◌-◌, ◌<◌, ◌≤◌}
 use native.Mathlib.Omega.{arith}
 use mathlib.Core.Path.{◌≡◌, refl, sym, ap, subst, ◌∙◌}
 use mathlib.Core.Logic.{⊎_elim}
-use mathlib.Core.Bool.{Bool, cond, false, true, not, ◌&&◌, ◌||◌, or-false}
-use mathlib.Core.List.{List, [], ◌∷◌, ◌++◌, append-nil, map}
+use mathlib.Core.Bool.{Bool, cond, false, true, ◌&&◌, ◌||◌, or-false}
+use mathlib.Core.List.{List, [], ◌++◌}
 use lib.Dec.{eqb, ltb}
-use lib.ListN.{drop, length, replicate, take, drop_of_length-le, length-append}
+use lib.ListN.{drop, length, replicate, take, drop_of_length-le}
 use lib.Seq.{length-take-le, take_all}
-use borrow.Author.Tests.{lt-ltb, le-ltb, eq-eqb, eqb-true, ltb-true, ne_eqb}
+use borrow.Author.Tests.{lt-ltb, le-ltb, eq-eqb, eqb-true, ltb-true}
 use lib.IntN.{ℤ}
 use lib.IntN.ℤ.{negsuc, pos}
 use Rattle.rules.specs.declared.state.State.{State}
@@ -23,16 +23,16 @@ use Rattle.text_rules.proofs.Bounded.{part_is_bounded}
 use Rattle.text_rules.proofs.Records.{record_fits}
 use Rattle.replay_rules.specs.Play.{Run, run_of}
 use Rattle.session_rules.specs.declared.session.Session.{Session}
-use Rattle.session_rules.specs.Session.{carried_of, end_fits, is_session, opened_from, opened_of, padded, partial}
-use Rattle.session_rules.specs.Portion.{Feed, all_taken, feed_of, refusal, refused_with, stopped_at}
-use Rattle.session_rules.specs.Portions.{EmptyChangesNothing, Exactly, Fits, Looks, LooksMean, OpeningMeans, PartialMeans, PortionPromise, Ready, Refuses, RefusalsMean, SessionsAre, bad_rows, partial_rows}
+use Rattle.session_rules.specs.Session.{carried_of, is_session, opened_from, opened_of, padded, partial}
+use Rattle.session_rules.specs.Portion.{Feed, feed_of, refusal, refused_with}
+use Rattle.session_rules.specs.Portions.{EmptyChangesNothing, Fits, Looks, LooksMean, OpeningMeans, PartialMeans, PortionPromise, Ready, RefusalsMean, SessionsAre, bad_rows, partial_rows}
 use Rattle.session_rules.proofs.Course.{Course, course, halt, run_end}
 use Rattle.session_rules.proofs.Course.Course.{End, Lacks, Tight, Goes}
 use Rattle.session_rules.proofs.Courses.{course_beyond}
 use Rattle.session_rules.proofs.Windows.{length_packed}
 use Rattle.session_rules.proofs.Ways.{Way, part_nil}
 use Rattle.session_rules.proofs.Ways.Way.{Through, Waits, Bad, Full}
-use Rattle.session_rules.proofs.Sessions.{Given, Held, Open, Why, carried_size, given, held, is_held, not_ended}
+use Rattle.session_rules.proofs.Sessions.{Given, Held, Open, carried_size, given, held, is_held, not_ended}
 use Rattle.session_rules.proofs.Sessions.Given.{Refused, Looked}
 use Rattle.session_rules.proofs.Sessions.Why.{Strange, Late, Again, Over, Not}
 

@@ -1,29 +1,28 @@
 -- The invariant of a session that calls have reached: the run over the bytes that were used is at its end with the session's counts, the
 -- answers joined and the chip; behind those bytes stands what is carried. Assumes nothing.
-use Prim.Native.Nat.{ℕ, ◌+◌, ◌*◌, ◌-◌, ◌/◌, ◌≤◌, ◌<◌}
-use native.Mathlib.Nat.{sub-zero}
+use Prim.Native.Nat.{ℕ, ◌+◌, ◌-◌, ◌≤◌}
 use native.Mathlib.Omega.{arith}
 use mathlib.Core.Path.{◌≡◌, refl, sym, ap, subst, ◌∙◌}
-use mathlib.Core.Bool.{Bool, cond, true, false}
+use mathlib.Core.Bool.{Bool, cond}
 use mathlib.Core.List.{List, [], ◌∷◌, ◌++◌, append_assoc, append-nil}
 use lib.Dec.{eqb}
 use lib.IntN.{ℤ}
-use lib.ListN.{length, drop, take, drop_of_length-le, length-append, length-take, take-append-drop}
+use lib.ListN.{length, drop, take, drop_of_length-le, length-append, length-take}
 use borrow.Author.Tests.{ne_eqb}
 use Rattle.rules.specs.declared.state.State.{State}
 use Rattle.rules.specs.PowerOn.{made_of}
 use Rattle.text_rules.specs.declared.record.Parsed.TheVariants.{Part}
 use Rattle.text_rules.specs.Record.{record_of}
-use Rattle.replay_rules.specs.Play.{Run, ended, run_of}
+use Rattle.replay_rules.specs.Play.{Run, run_of}
 use Rattle.replay_rules.specs.Room.{room_of}
 use Rattle.session_rules.specs.declared.session.Session.{Session}
 use Rattle.session_rules.specs.Session.{carried_of, opened_of}
-use Rattle.session_rules.specs.Portion.{Feed, feed_of}
+use Rattle.session_rules.specs.Portion.{Feed}
 use Rattle.session_rules.specs.Calls.{Call, answers_after, fed, opened, session_after, taken_after}
 use Rattle.session_rules.proofs.Course.{after, after_halt, course, halt, run_end, run_lacks, same_run}
 use Rattle.session_rules.proofs.Course.Lacking.{Partly}
 use Rattle.session_rules.proofs.Courses.{course_more, course_own, sizes}
-use Rattle.session_rules.proofs.Ways.{Moved, Way, moved, moved_back}
+use Rattle.session_rules.proofs.Ways.{moved, moved_back}
 use Rattle.session_rules.proofs.Sessions.{Given, Held, carried_size, fed_held, given, opened_held}
 use Rattle.session_rules.proofs.Sessions.Given.{Refused, Looked}
 

@@ -1,14 +1,14 @@
 -- What being a session says, and that a portion leaves one. Assumes nothing.
 use Prim.Native.Nat.{ℕ, ◌+◌, ◌*◌, ◌-◌, ◌≤◌, ◌<◌}
 use native.Mathlib.Omega.{arith}
-use mathlib.Core.Path.{◌≡◌, refl, sym, ap, subst, ◌∙◌}
+use mathlib.Core.Path.{◌≡◌, refl, sym, ap, ◌∙◌}
 use mathlib.Core.Bool.{Bool, cond, true, false, not, ◌&&◌, ◌||◌}
 use mathlib.Core.List.{List, [], ◌∷◌, ◌++◌}
 use lib.Dec.{eqb, leb, ltb}
 use lib.IntN.{ℤ}
 use lib.ListN.{length, drop, replicate, take, length-append, length-replicate, length-take}
 use lib.Seq.{drop-nil}
-use borrow.Author.Tests.{eq-eqb, eqb-false, eqb-true, le-leb, le-ltb, leb-true, lt-ltb, ltb-false, ltb-true, ne_eqb}
+use borrow.Author.Tests.{eqb-false, eqb-true, le-leb, leb-true, lt-ltb, ltb-false, ltb-true}
 use Rattle.rules.specs.PowerOn.{made_of}
 use Rattle.rules.specs.WellFormed.{well_formed}
 use Rattle.rules.proofs.WellFormed.{fresh_well_formed}
@@ -23,9 +23,9 @@ use Rattle.replay_rules.specs.Play.{Run, run_of}
 use Rattle.session_rules.specs.declared.session.Session.{Session}
 use Rattle.session_rules.specs.Session.{carried_fits, carried_of, counts_fit, end_fits, is_part, is_session, opened_of, padded, partial}
 use Rattle.session_rules.specs.Portion.{Feed, feed_of, refusal, refused_with, settled, waits}
-use Rattle.session_rules.proofs.Course.{Course, course}
+use Rattle.session_rules.proofs.Course.{course}
 use Rattle.session_rules.proofs.Courses.{course_well, sizes}
-use Rattle.session_rules.proofs.Ways.{Moved, Way, moved, moved_back, part_nil, way}
+use Rattle.session_rules.proofs.Ways.{Way, moved, moved_back, part_nil, way}
 use Rattle.session_rules.proofs.Ways.Way.{Through, Waits, Bad, Full}
 
 both : (a b : Bool) → (a && b) ≡ true → (a ≡ true) × (b ≡ true)

@@ -4,12 +4,10 @@ use Prim.Native.Nat.{ℕ, ◌+◌, ◌-◌, ◌≤◌, ◌<◌}
 use native.Mathlib.Omega.{arith}
 use mathlib.Core.Path.{◌≡◌, refl, sym, ap, subst, ◌∙◌}
 use mathlib.Core.Logic.{⊎_elim}
-use mathlib.Core.Bool.{Bool, cond, true, false}
+use mathlib.Core.Bool.{Bool, cond}
 use mathlib.Core.List.{List, [], ◌++◌, append-nil}
-use lib.Dec.{eqb}
 use lib.ListN.{length, drop, take, drop_of_length-le, length-append, replicate, take-append-drop}
 use lib.Seq.{take_all, take-append-add, take-append_seam}
-use borrow.Author.Tests.{eq-eqb, ne_eqb}
 use Rattle.text_rules.specs.declared.record.Record.{Record}
 use Rattle.text_rules.specs.declared.record.Parsed.TheVariants.{Whole, Part, Malformed}
 use Rattle.text_rules.specs.Line.{fit_of, line_of}
@@ -19,7 +17,7 @@ use Rattle.replay_rules.specs.Play.{Run, answer_to, text_of}
 use Rattle.session_rules.specs.declared.session.Session.{Session}
 use Rattle.session_rules.specs.Session.{carried_of, padded, partial}
 use Rattle.session_rules.specs.Portion.{Feed, all_taken, settled, stopped_at, waits}
-use Rattle.session_rules.proofs.Course.{Course, Lacking}
+use Rattle.session_rules.proofs.Course.{Course}
 use Rattle.session_rules.proofs.Course.Lacking.{Never, Partly}
 use Rattle.session_rules.proofs.Courses.{Stop, course_beyond, course_stop, sizes}
 use Rattle.session_rules.proofs.Courses.Stop.{AtEnd, NoRecord, NoRoom}

@@ -1,6 +1,6 @@
 -- Document 02, item 1, over every list of calls: "However the trace is cut, once no answer waits for room, the answers joined, the end state
 -- and the final report equal those of one replay over the whole with room enough". Proofs in proofs/Calls.antt. Assumes nothing.
-use Rattle.std.specs.Prelude.{ℕ, ◌+◌, ◌-◌, ◌≤◌, ◌<◌, ◌≡◌, Bool, cond, false, true, List, [], ◌∷◌, ◌++◌, map, ℤ, drop, length, take}
+use Rattle.std.specs.Prelude.{ℕ, ◌+◌, ◌-◌, ◌≤◌, ◌<◌, ◌≡◌, Bool, false, true, List, [], ◌∷◌, ◌++◌, map, ℤ, drop, length, take}
 use Rattle.rules.specs.Alarm.{Demand, Shows}
 use Rattle.rules.specs.PowerOn.{made_of}
 use Rattle.text_rules.specs.declared.record.Record.{Record}

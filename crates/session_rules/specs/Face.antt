@@ -4,7 +4,6 @@ use Rattle.std.proofs.Math.IntN.ℤ.{negsuc, pos}
 use Rattle.text_rules.specs.Answer.{put}
 use Rattle.replay_rules.specs.Replay.{word}
 use Rattle.session_rules.specs.declared.session.Opened.{Opened}
-use Rattle.session_rules.specs.declared.session.Session.{Session}
 use Rattle.session_rules.specs.Session.{opened_of}
 use Rattle.session_rules.specs.Portion.{Feed, feed_of, refused_with, report_after}
 use Rattle.session_rules.specs.Bytes.{bytes_of, held_in, is_held}

@@ -1,7 +1,6 @@
 -- Document 02, "carry a partial record of bounded length over": what is kept between two portions, and which sessions there are. Assumes
 -- nothing.
 use Rattle.std.specs.Prelude.{ℕ, ◌+◌, ◌*◌, ◌-◌, Bool, cond, true, false, ◌&&◌, List, ◌++◌, eqb, leb, ltb, length, replicate, take, ℤ}
-use Rattle.rules.specs.declared.answer.Made.{Made}
 use Rattle.rules.specs.declared.state.State.{State}
 use Rattle.rules.specs.PowerOn.{made_of}
 use Rattle.rules.specs.WellFormed.{well_formed}

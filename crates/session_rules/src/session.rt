@@ -2,7 +2,7 @@ use rules::state::State;
 
 // A trace under way: the chip, the bytes of a partial record (the first count of carried), the counts so far, whether its end was declared,
 // and whether it stopped with code 7.
-#[derive(Drop)]
+#[derive(Clone, Copy)]
 pub struct Session {
     pub chip: State,
     pub records: usize,
@@ -15,14 +15,14 @@ pub struct Session {
 }
 
 // A session opened, and the code.
-#[derive(Drop)]
+#[derive(Clone, Copy)]
 pub struct Opened {
     pub code: u8,
     pub session: Session,
 }
 
 // What one portion came to: its code, the bytes that were taken of it, the output bytes that were written, and the session after it.
-#[derive(Drop)]
+#[derive(Clone, Copy)]
 pub struct Fed {
     pub code: u8,
     pub taken: usize,
@@ -31,7 +31,7 @@ pub struct Fed {
 }
 
 // The first 39 bytes of something, or all of it where there are fewer.
-#[derive(Drop)]
+#[derive(Clone, Copy)]
 pub struct Window {
     pub bytes: [u8; 39],
     pub count: usize,

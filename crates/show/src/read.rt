@@ -61,6 +61,7 @@ fn after_read(s: State, from: Source) -> State
 }
 
 // The reply is taken before the read changes anything.
+#[tactic(auto, unfolding(rules::specs::Read::read_at_pointer))]
 pub fn read_at_pointer(s: State) -> Done
     ensures { result ≡ read_at_pointer s }
 {

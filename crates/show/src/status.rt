@@ -12,6 +12,7 @@ fn weigh(set: bool, n: u8) -> u8
     if set { n } else { 0 }
 }
 
+#[tactic(auto, unfolding(rules::specs::Status::status_of))]
 pub fn status(s: State) -> u8
     ensures { result ≡ status_of s }
 {
@@ -25,6 +26,7 @@ pub fn status(s: State) -> u8
         + weigh(s.localthermflag, 1)
 }
 
+#[tactic(auto, unfolding(rules::specs::Status::after_status))]
 pub fn after_status(s: State) -> State
     ensures { result ≡ after_status s }
 {

@@ -12,14 +12,14 @@ use crate::record::read_record;
 use text_rules::record::{Parsed, Record};
 
 // What digits are worth, and the place behind the byte 10 that ends them; 0 where they were not read.
-#[derive(Drop)]
+#[derive(Clone, Copy)]
 struct Gathered {
     value: u32,
     end: usize,
 }
 
 // The same with its sign.
-#[derive(Drop)]
+#[derive(Clone, Copy)]
 struct Found {
     value: i32,
     end: usize,

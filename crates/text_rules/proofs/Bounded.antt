@@ -17,7 +17,7 @@ use Rattle.text_rules.specs.Answer.{answer_text, decimal_of, line_text}
 use Rattle.text_rules.specs.Number.{digits_of, number_of, plain_of}
 use Rattle.text_rules.specs.Line.{fit_of, line_of}
 use Rattle.text_rules.specs.Record.{record_of}
-use Rattle.text_rules.specs.Bounded.{AnswerIsBounded, Bounded, BoundsAreMet, PartEndsInside, PartIsBounded, RecordIsBounded, WindowDecides, longest, shortest}
+use Rattle.text_rules.specs.Bounded.{AnswerIsBounded, BoundsAreMet, PartEndsInside, PartIsBounded, RecordIsBounded, WindowDecides, longest, shortest}
 use Rattle.text_rules.specs.RecordText.{line_written, record_text}
 use Rattle.text_rules.specs.Sizes.{longest_record}
 use Rattle.text_rules.specs.Written.{digit_count, last_digits, written_natural, written_number}

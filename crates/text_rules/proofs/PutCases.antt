@@ -1,14 +1,12 @@
 -- What a writer promises, by the two ways that it can go. Assumes nothing.
-use Prim.Native.Nat.{ℕ, ◌+◌, ◌<◌, ◌≤◌}
+use Prim.Native.Nat.{ℕ, ◌≤◌}
 use native.Mathlib.Omega.{arith}
-use mathlib.Core.Path.{◌≡◌, refl, sym, ap, ◌∙◌}
+use mathlib.Core.Path.{◌≡◌}
 use mathlib.Core.List.{List, ◌++◌}
 use lib.ListN.{drop, length}
 use lib.Seq.{drop-append_seam}
 use lib.ListN.{length-append}
 use borrow.Author.Tests.{le-leb, lt-leb}
-use Rattle.text_rules.specs.declared.answer.Wrote.TheVariants.{Bytes, NoRoom}
-use Rattle.text_rules.specs.Answer.{Put}
 use Rattle.text_rules.specs.PutCases.{PutMeans}
 
 fitting : (text over rest : List ℕ) → length over ≡ length text → length text ≤ length (over ++ rest)

@@ -17,8 +17,8 @@ use Rattle.text_rules.proofs.Choice.{choice}
 use Rattle.text_rules.specs.Written.{WrittenIsRead, digit_count, last_digits, written_natural}
 use Rattle.text_rules.proofs.Plain.{AllDigits, worth, plain_reads}
 
-is_digit : (b : ℕ) → 48 ≤ b → b ≤ 57 → is_digit b ≡ true
-is_digit b h g = rw (le-ltb b 48 h, le-ltb 57 b g)
+digit_is : (b : ℕ) → 48 ≤ b → b ≤ 57 → is_digit b ≡ true
+digit_is b h g = rw (le-ltb b 48 h, le-ltb 57 b g)
 
 digit_least : (b : ℕ) → is_digit b ≡ true → 48 ≤ b
 digit_least b = choice (λ (t : Bool). t ≡ true → 48 ≤ b) (ltb b 48) (λ f e. absurd (false≢true e)) (λ f e. ltb-false b 48 f)
@@ -33,7 +33,7 @@ worth_snoc v (x ∷ ds) d = worth_snoc (v * 10 + (x - 48)) ds d
 
 digits_all : (k n : ℕ) → AllDigits (last_digits k n)
 digits_all zero n = tt
-digits_all (suc k) n = all_snoc (last_digits k (n / 10)) (48 + n % 10) (digits_all k (n / 10)) (is_digit (48 + n % 10) (omega arith) (omega arith))
+digits_all (suc k) n = all_snoc (last_digits k (n / 10)) (48 + n % 10) (digits_all k (n / 10)) (digit_is (48 + n % 10) (omega arith) (omega arith))
 
 pub digits_length : (k n : ℕ) → length (last_digits k n) ≡ k
 digits_length zero n = refl

@@ -1,7 +1,6 @@
 -- A text put at the front of what is lent, in other words: where it fits, by one byte too, all of it and the rest as it was; where it does not,
 -- nothing. The proofs are in proofs/PutCases.antt. Assumes nothing.
-use Rattle.std.specs.Prelude.{ℕ, ◌<◌, ◌≤◌, ◌≡◌, List, [], ◌∷◌, ◌++◌, length}
-use Rattle.text_rules.specs.declared.answer.Wrote.{Wrote}
+use Rattle.std.specs.Prelude.{ℕ, ◌<◌, ◌≡◌, List, ◌++◌, length}
 use Rattle.text_rules.specs.declared.answer.Wrote.TheVariants.{Bytes, NoRoom}
 use Rattle.text_rules.specs.Answer.{Put}
 

@@ -1,5 +1,5 @@
 // How many bytes were written; or that there was no room, and none was.
-#[derive(Drop)]
+#[derive(Clone, Copy)]
 pub enum Wrote {
     Bytes(usize),
     NoRoom,

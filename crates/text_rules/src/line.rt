@@ -1,5 +1,5 @@
 // A name at the front of a part: whole, begun, or not there.
-#[derive(Drop)]
+#[derive(Clone, Copy)]
 pub enum Fit {
     Yes,
     Begun,

@@ -1,5 +1,5 @@
 // A record's four numbers.
-#[derive(Drop)]
+#[derive(Clone, Copy)]
 pub struct Record {
     pub kind: i32,
     pub a: i32,
@@ -8,7 +8,7 @@ pub struct Record {
 }
 
 // What stands at the front of a part: a whole record with its length, a part of one that more bytes could complete, or neither.
-#[derive(Drop)]
+#[derive(Clone, Copy)]
 pub enum Parsed {
     Whole(Record, usize),
     Part,

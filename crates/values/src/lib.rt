@@ -1,4 +1,7 @@
 // Document 01, Values: what a measurement becomes in a channel's value register, and the register's two bytes.
+
+#![tactic(auto)]
+
 ghost use Rattle.std.specs.Prelude.{◌≡◌, ◌≤◌, pos, ◌+ℤ◌};
 ghost use Rattle.rules.specs.Channels.{scale_of};
 ghost use Rattle.rules.specs.Values.{offset_of, top_of, shift_of, clamp_of, code_of, high_byte_of, low_byte_of};

@@ -1,0 +1,19 @@
+-- `dlaveth::dlaveth_power_on`: of another length, or what its callees ensure. Assumes nothing.
+use native.Mathlib.Omega.{arith}
+use mathlib.Core.Path.{refl}
+use borrow.Author.Tests.{ne_eqb}
+use mir.Syntax.{w32}
+use mir.Facts.{to_z-of_z}
+use mir.ValLaws.{to_z_pos}
+use Rattle.saved_rules.specs.Face.{power_on_of}
+use Rattle.saved_rules.proofs.Faced.{powered}
+use Rattle.dlaveth.proofs.dlaveth_power_on.Goals as goal
+
+pub returns-then-chip-ne128 : goal.returns-then-chip-ne128
+unfolding power_on_of
+returns-then-chip-ne128 c = rw (ne_eqb _ _ c.if-chip-ne128.true) (record { code = refl; bytes = refl })
+
+pub returns : goal.returns
+returns c =
+    powered _ _ c.if-chip-ne128.false (rw (to_z-of_z c.ranges.address) at c.fresh-made.ensures) c.place.ensures
+    (to_z_pos w32 c.fresh-made.result.code (omega arith))
