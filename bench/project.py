@@ -16,7 +16,7 @@ DRIVE = "replay::play::drive"
 # A part, and what is seen where it begins.
 PLACES = {
     "reading": r"cmp +\$0x27,",                   # 39 bytes or more are left
-    "step": r"cmp +\$0x7,%e",                     # the kind
+    "step": r"cmp +\$0x7,%(?:e|r\d+d)",          # the kind
     "answer, loop and room": r"\$0x65646f63,",    # "code"
 }
 

@@ -11,5 +11,8 @@ if [[ ! -e examples/$name.c ]]; then
     exit 2
 fi
 mkdir -p target/examples
-"${x86_cc[@]}" -std=c99 -Wall -Wextra -Wpedantic -Wconversion -Iinclude "examples/$name.c" "${@:2}" "$x86_library" -o "target/examples/$name"
+part=$(mktemp -d "target/examples/$name.XXXXXX")    # two runs at once build aside and each moves a whole program in
+trap 'rm -rf "$part"' EXIT
+"${x86_cc[@]}" -std=c99 -Wall -Wextra -Wpedantic -Wconversion -Iinclude "examples/$name.c" "${@:2}" "$x86_library" -o "$part/$name"
+mv "$part/$name" "target/examples/$name"
 "${x86_run[@]}" "target/examples/$name"

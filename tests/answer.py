@@ -473,23 +473,28 @@ def progress(room):
 
 def built_first(room):
     """With a stand-in for rt, which makes what it is asked for at once."""
-    for name in "bin", "tools", "crates":
-        (room / name).mkdir()
+    for name in "bin", "tools", "crates/dlaveth/src", "crates/console/src", "crates/console/out":
+        (room / name).mkdir(parents=True)
     (room / "crates.txt").touch()
-    for name in "x86.sh", "need.sh", "replay.sh":
+    for name in "x86.sh", "need.sh", "crates.sh", "replay.sh":
         shutil.copy(TOOLS / name, room / "tools")
-    kit = room / "kit" / "on" / os.uname().machine / "toolchain" / "lib"
-    kit.mkdir(parents=True)
-    for path, text in (room / "bin" / "rt", 'case $1 in doc) echo "$ROOM/kit/doc/x"; exit ;; staticlib) file=staticlib/libdlaveth.a ;; check) file=bin/console ;; esac\n'
-                       'mkdir -p "target/${file%/*}"\ntouch "target/$file"\n'), (kit / "ld-linux-x86-64.so.2", "cat\n"):
+    for name, text in ("rt", 'case $1:${PWD##*/} in lib:dlaveth) file=libdlaveth.a ;; run:console) file=console ;; *) exit 1 ;; esac\n'
+                       'echo a word of rt\nmkdir -p out\nprintf "#!/bin/sh\\ncat\\n" >out/$file\nchmod +x out/$file\n'), ("qemu-x86_64", 'shift 2\nexec "$@"\n'):
+        path = room / "bin" / name
         path.write_text("#!/bin/sh\n" + text)
         path.chmod(0o755)
-    more = {"cwd": room, "env": os.environ | {"PATH": f"{room / 'bin'}:{os.environ['PATH']}", "ROOM": str(room)}}
+    more = {"cwd": room, "env": os.environ | {"PATH": f"{room / 'bin'}:{os.environ['PATH']}"}}
     for what, made, words in [("library", "staticlib/libdlaveth.a", ["bash", "-c", "set -euo pipefail; . tools/x86.sh"]),
                               ("small program", "bin/console", [room / "tools" / "replay.sh"])]:
         line = f"proving and building the {what}: some five minutes at the first run\r\n"
         have = at_terminal(words, **more), at_terminal(words, **more)
         check(f"the {what} is built first: a terminal is told so, and told once", differs(have, ((0, "", line), (0, "", ""))))
+        hence = time.time() + 60
+        for folder, told in ("out", ""), ("src", line):
+            (room / "crates" / "console" / folder / "new").touch()
+            os.utime(room / "crates" / "console" / folder / "new", (hence, hence))
+            check(f"the {what} is {'built again behind a change' if told else 'not built again behind what rt left'}", differs(at_terminal(words, **more), (0, "", told)))
+        (room / "crates" / "console" / "src" / "new").unlink()
         (room / "target" / made).unlink()
         done = subprocess.run(words, capture_output=True, stdin=subprocess.DEVNULL, **more)
         check(f"the {what} is built first: a pipe is not told", differs((done.returncode, done.stdout, done.stderr), (0, b"", b"")))

@@ -1,4 +1,8 @@
-"""The named edits of the mutation run, tests/mutation/named/CRATE/NAME.edit: written as the gate's must-fail edits are, and tried by the mutation run alone."""
+"""The named edits of the mutation run, tests/mutation/named/CRATE/NAME.edit: written as the gate's must-fail edits are, and tried by the mutation run alone.
+
+rt names a goal by the test before it, as `returns-then-d-eq0`. Where an edit changes such a test, it changes the name in the proof's file too, so that
+the fact is what refuses it and not the name.
+"""
 from pathlib import Path
 
 ROOT = Path(__file__).resolve().parent.parent

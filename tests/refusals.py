@@ -1,14 +1,24 @@
 """Why the prover refused an edit: at a fact that no longer holds, or only because a proof no longer fits the code's form."""
+import re
 
 # Refusals that say only that the proof no longer fits the code's form. A rewrite that finds nothing ("`rw`: no occurrence of the path's
 # left endpoint") is none of them: the form fits, and a test or call now says something else than the rule.
-UNFIT = ["has no `Need-", "is not in scope", "has no field", "missing field(s)", "Parse error", "no such module"]
+UNFIT = [
+    "has no `", "is not in scope", "has no field", "is no name", "missing field(s)", "Parse error", "no such module", "operand is missing", "expected the end",
+    "cannot continue",
+]
+# What only follows from an error elsewhere, and is no finding of its own: `N declarations that depend on X, which was rejected, were not checked`.
+FOLLOWS = re.compile(r"\bdepends? on .*\b(?:was|were) not checked")
+
+
+# An error of a definition or a proof, or a note of a fact that is not proved of the code, both with their place; a note without one is advice.
+ERROR = re.compile(r"\S+:\d+:\d+: error|note: \S+:\d+:\d+: ")
 
 
 def errors_of(log):
     """The log's errors, each on a line of its own, the first first."""
-    errors = [line for line in log.replace("\n  ", " ").splitlines() if ": error" in line or line.startswith("note: ")]
-    return [line for line in errors if "was not admitted" not in line and "no function with a body is declared" not in line]
+    errors = [line for line in log.replace("\n  ", " ").splitlines() if ERROR.match(line)]
+    return [line for line in errors if not FOLLOWS.search(line) and "was not admitted" not in line]
 
 
 def unfit(log, at=()):

@@ -1,7 +1,9 @@
 #!/usr/bin/env python3
 """What `rt ci` does not look at: public contracts, the names in the documents, why each must-fail edit was refused, and the cases.
 
-Run after `rt ci`, whose logs it reads. Its last line is 'N passed, M failed'. Each check is first tried on something that it must find.
+Run after .ci/run's `rt ci`, of which it reads target/ci.log and what the programs wrote, and after tests/trials.py, whose logs it reads: `rt ci` itself
+keeps no log of a crate's check, and of an edit's refusal the first line alone. Its last line is 'N passed, M failed'. Each check is first tried on
+something that it must find.
 """
 import re
 import subprocess
@@ -12,8 +14,10 @@ from checks import check, differs, end
 from definitions import blocks, digests, recorded, unlike
 from named import PLACE, changed, named
 from refusals import SAYING, unfit
+from trials import Digests, must_fail, said_of
 
 ROOT = Path(__file__).resolve().parent.parent
+GATE = ROOT / "target" / "ci.log"
 # A public function: its attributes, `pub` or `pub(..)`, words such as `extern "C"`, its name, and all up to its body.
 PUBLIC = re.compile(r'^ *(?:#\[[^\n]*?\] *)*pub(?:\([^)\n]*\))? (?:[\w"]+ )*?fn (\w+)(.*?)(?:\n\s*\{$| \{$| \{\}$)', re.M | re.S)
 # Records of equations that give the result and every byte of each lent buffer. Each has a law that no second answer satisfies it.
@@ -28,22 +32,26 @@ LOOSENS = re.compile("[→⊎∨]")
 def exact(rest):
     """Whether a function's contracts leave one answer: a record of equations, or an equation for the result and for each lent buffer."""
     signature, *clauses = re.split(r"^\s+(?=requires\b|ensures\b)", rest, flags=re.M)
-    said = [m[1] for text in clauses if (m := re.match(r"ensures \{ λ r\. ⌜ (.*)", text, re.S)) and not LOOSENS.search(text)]
+    said = [m[1] for text in clauses if (m := re.fullmatch(r"ensures(?: \w+)? \{ (.*) \}\s*", text, re.S)) and not LOOSENS.search(text)]
     lent = re.findall(r"(\w+): &(?:'\w+ )?mut\b", signature)
     if lent and any(text.split()[0] in RECORDS and covers(text, lent) for text in said):
         return True
     lent = set(lent)
-    result = any(re.match(r"r ≡ (?!.*\br\b)", text, re.S) for text in said)
-    given = {m[1] for text in said if (m := re.match(r"now \((\w+) \.exit\) ≡ (?!.*(?:\br\b|\.exit))", text, re.S))}
+    result = any(re.match(r"result ≡ (?!.*\bresult\b)", text, re.S) for text in said)
+    given = {m[1] for text in said if (m := re.match(r"(\w+)\.new ≡ (?!.*(?:\bresult\b|\.\s*new\b))", text, re.S))}
     return lent <= given and (result or bool(lent) and "->" not in signature)
 
 
 def covers(text, lent):
-    """Whether a record's arguments have each lent buffer at entry and after that at exit, once, and the exits in the order of the parameters."""
-    exits = re.findall(r"\(now \((\w+) \.exit\)\)", text)
-    entries = re.findall(r"\(now \((\w+) \.entry\)\)", text)
-    places = [(text.find(f"(now ({name} .entry))"), text.find(f"(now ({name} .exit))")) for name in lent]
-    return exits == lent and all(entries.count(name) == 1 for name in lent) and all(0 < entry < at for entry, at in places)
+    """Whether a record's arguments have each lent buffer at entry and after that at exit, once, and the exits in the order of the parameters,
+    each an argument of its own."""
+    entries, exits = [re.findall(rf"\b(\w+)\s*\.\s*{when}\b", text) for when in ("old", "new")]
+    alone, inner = text, None
+    while alone != inner:
+        alone, inner = re.sub(r"\([^()]*\)", "()", alone.replace("()", "_")), alone
+    places = [(text.find(f"{name}.old"), text.find(f"{name}.new")) for name in lent]
+    return (exits == lent == re.findall(r"(?<= )(\w+)\.new(?= |$)", alone) and all(entries.count(name) == 1 for name in lent)
+            and all(0 < entry < at for entry, at in places))
 
 
 def loose(source, where):
@@ -61,48 +69,66 @@ def loose(source, where):
 
 # Contracts that the check must accept or refuse: a function's head, what its `ensures` say, whether they leave one answer.
 CONTRACTS = [
-    ("pub fn f(x: u8) -> u8", ["r ≡ half x"], True),
-    ("pub fn f(x: u8) -> u8", ["r ≤ x", "r ≡ half x"], True),
-    ("pub fn f(x: u8) -> u8", ["r ≡ r"], False),
-    ("pub fn f(x: u8) -> u8", ["r ≡ half r"], False),
-    ("pub fn f(x: u8) -> u8", ["r ≡ x → r ≡ x"], False),
-    ("pub fn f(x: u8) -> u8", ["r ≡ half\n        r"], False),
-    ("pub fn f(x: u8) -> u8", ["x ≡ 0 → r ≡ x"], False),
+    ("pub fn f(x: u8) -> u8", ["result ≡ half x"], True),
+    ("pub fn f(x: u8) -> u8", ["result ≤ x", "result ≡ half x"], True),
+    ("pub fn f(x: u8) -> u8", ["result ≤ x"], False),
+    ("pub fn f(x: u8) -> u8", ["result ≡ result"], False),
+    ("pub fn f(x: u8) -> u8", ["result ≡ half result"], False),
+    ("pub fn f(x: u8) -> u8", ["result ≡ (pair result).first"], False),
+    ("pub fn f(x: u8) -> u8", ["result ≡ x → result ≡ x"], False),
+    ("pub fn f(x: u8) -> u8", ["(y : ℕ) → result ≡ x"], False),
+    ("pub fn f(x: u8) -> u8", ["(result ≡ x) ⊎ (x ≡ 0)"], False),
+    ("pub fn f(x: u8) -> u8", ["result ≡ half\n        result"], False),
+    ("pub fn f(x: u8) -> u8", ["x ≡ 0 → result ≡ x"], False),
+    ("pub fn f(x: u8) -> u8", ["IfOk result (λ n. n ≡ x)"], False),
+    ("pub fn f(x: u8) -> u8", ["r ≡ half x"], False),
+    ("pub fn f<R: Read>(from: &mut R, x: u8) -> u8", ["result ≡ half x"], False),
+    ("pub fn f(\n    x: u8,\n    y: u8,\n) -> u8", ["result ≡ half x"], True),
     ("pub(crate) fn f(x: u8) -> u8", [], False),
     ("pub extern \"C\" fn f(x: u8) -> u8", [], False),
-    ("#[no_mangle] pub extern \"C\" fn f(x: u8) -> u8", [], False),
-    ("#[no_mangle] pub extern \"C\" fn f(x: u8) -> u8", ["r ≡ half x"], True),
-    ("pub fn f(x: u8, out: &mut [u8]) -> u8", ["Put x (now (out .entry)) (now (out .exit)) r"], True),
-    ("pub fn f(x: u8, out: &mut [u8]) -> u8", ["Put x (now (out .exit)) (now (out .exit)) r"], False),
-    ("pub fn f(x: u8, out: &mut [u8]) -> u8", ["Put x (now (out .exit)) (now (out .entry)) r"], False),
-    ("pub fn f(x: u8, out: &mut [u8]) -> u8", ["Put x r (now (out .exit))"], False),
-    ("pub fn f(out: &mut [u8], more: &mut [u8]) -> u8", ["Put (now (out .entry)) (now (out .exit)) r"], False),
-    ("pub fn f(out: &mut [u8], more: &mut [u8]) -> u8", ["Replayed (g (now (out .entry)) (now (more .entry))) r (now (out .exit)) (now (more .exit))"], True),
-    ("pub fn f(out: &mut [u8], more: &mut [u8]) -> u8", ["Replayed (g (now (out .entry)) (now (more .entry))) r (now (more .exit)) (now (out .exit))"], False),
-    ("pub fn f(x: u8, out: &mut [u8]) -> u8", ["Other x (now (out .entry)) (now (out .exit)) r"], False),
-    ("pub fn f(x: u8, out: &mut [u8]) -> u8", ["Put x (now (out .entry)) (now (out .exit)) r → Put x r (now (out .exit))"], False),
-    ("pub fn f(x: u8) -> u8", ["Put x r"], False),
-    ("pub fn f(x: u8, out: &mut [u8]) -> u8", ["r ≡ half x"], False),
-    ("pub fn f(x: u8, out: &mut [u8]) -> u8", ["now (out .exit) ≡ bytes x"], False),
-    ("pub fn f(x: u8, out: &mut [u8]) -> u8", ["r ≡ half x", "now (out .exit) ≡ bytes x"], True),
-    ("pub fn f(x: u8, out: &mut [u8])", ["now (out .exit) ≡ bytes x"], True),
-    ("pub fn f(x: u8, out: &mut [u8])", ["now (out .exit) ≡ now (out .exit)"], False),
-    ("pub fn f(out: &mut [u8], more: &mut [u8])", ["now (out .exit) ≡ bytes"], False),
+    ("#[unsafe(no_mangle)] pub extern \"C\" fn f(x: u8) -> u8", [], False),
+    ("#[unsafe(no_mangle)] pub extern \"C\" fn f(x: u8) -> u8", ["result ≡ half x"], True),
+    ("#[unsafe(no_mangle)]\n#[tactic(auto, unfolding(m::specs::M::f))]\npub extern \"C\" fn f(x: u8) -> u8", [], False),
+    ("#[unsafe(no_mangle)]\n#[tactic(auto, unfolding(m::specs::M::f))]\npub extern \"C\" fn f(x: u8) -> u8", ["result ≡ half x"], True),
+    ("pub fn f(x: u8, out: &mut [u8]) -> u8", ["Put x out.old out.new result"], True),
+    ("pub fn f(x: u8, out: &mut [u8]) -> u8", ["Put x out.new out.new result"], False),
+    ("pub fn f(x: u8, out: &mut [u8]) -> u8", ["Put x out.new out.old result"], False),
+    ("pub fn f(x: u8, out: &mut [u8]) -> u8", ["Put x result out.new"], False),
+    ("pub fn f(x: u8, out: &mut [u8]) -> u8", ["Put x out.old (take 1 out.new) result"], False),
+    ("pub fn f(x: u8, out: &mut [u8]) -> u8", ["Put x out.old (take (g x) out.new) result"], False),
+    ("pub fn f(x: u8, out: &mut [u8]) -> u8", ["Put x out.old out.new.front result"], False),
+    ("pub fn f(out: &mut [u8], more: &mut [u8]) -> u8", ["Put out.old out.new result"], False),
+    ("pub fn f(out: &mut [u8], more: &mut [u8]) -> u8", ["Replayed (g out.old more.old) result out.new more.new"], True),
+    ("pub fn f(out: &mut [u8], more: &mut [u8]) -> u8", ["Replayed (g out.old (h more.old)) result out.new more.new"], True),
+    ("pub fn f(out: &mut [u8], more: &mut [u8]) -> u8", ["Replayed (g out.old more.old) result more.new out.new"], False),
+    ("pub fn f(x: u8, out: &mut [u8]) -> u8", ["Other x out.old out.new result"], False),
+    ("pub fn f(x: u8, out: &mut [u8]) -> u8", ["Put x out.old out.new result → Put x result out.new"], False),
+    ("pub fn f(x: u8) -> u8", ["Put x result"], False),
+    ("pub fn f(x: u8, out: &mut [u8]) -> u8", ["result ≡ half x"], False),
+    ("pub fn f(x: u8, out: &mut [u8]) -> u8", ["out.new ≡ bytes x"], False),
+    ("pub fn f(x: u8, out: &mut [u8]) -> u8", ["result ≡ half x", "out.new ≡ bytes x"], True),
+    ("pub fn f(x: u8, out: &mut [u8])", ["out.new ≡ bytes x"], True),
+    ("pub fn f(x: u8, out: &mut [u8])", ["out.new ≡ out.new"], False),
+    ("pub fn f(x: u8, out: &mut [u8])", ["out.old ≡ bytes x"], False),
+    ("pub fn f(out: &mut [u8], more: &mut [u8])", ["out.new ≡ bytes"], False),
 ]
 
 
 def contracts():
-    asks = "pub fn f(x: u8) -> u8\n    requires { a }\n    ensures { λ r. ⌜ r ≡ x ⌝ }\n{\n    x\n}\n"
-    check("a public requires is found", [] if loose(asks, "m") == ["m::f has a requires"] else ["it is not"])
+    asks = "pub fn f(x: u8) -> u8\n    requires { a }\n    ensures { result ≡ x }\n{\n    x\n}\n"
+    asked = [text for text in (asks, asks.replace("requires", "requires low")) if loose(text, "m") != ["m::f has a requires"]]
+    check("a public requires is found, with a name too", asked)
     check("a missing ensures is found", [] if loose("pub fn f() {\n}\n", "m") == ["m::f has no ensures"] else ["it is not"])
-    vague = "pub fn f(x: u8) -> u8\n    ensures { λ r. ⌜ r ≤ x ⌝ }\n{\n    x\n}\n"
+    vague = "pub fn f(x: u8) -> u8\n    ensures { result ≤ x }\n{\n    x\n}\n"
     check("an ensures that leaves two answers is found", [] if len(loose(vague, "m")) == 1 else ["it is not"])
     for good, name in (False, "empty and partial contracts are found, behind an attribute too"), (True, "exact contracts are accepted"):
         wrong = []
         for head, said in [(head, said) for head, said, leaves_one in CONTRACTS if leaves_one == good]:
-            source = f"{head}\n" + "".join(f"    ensures {{ λ r. ⌜ {text} ⌝ }}\n" for text in said) + "{\n}\n"
-            if len(PUBLIC.findall(source)) != 1 or len(loose(source, "m")) != (0 if good else 1):
-                wrong.append(f"{head}: {'; '.join(said)}")
+            for named in False, True:    # a clause may have a name, which says nothing
+                clauses = [f"    ensures {f'n{place} ' * named}{{ {text} }}\n" for place, text in enumerate(said)]
+                source = f"{head}\n{''.join(clauses)}{{\n}}\n"
+                if len(PUBLIC.findall(source)) != 1 or len(loose(source, "m")) != (0 if good else 1):
+                    wrong.append(f"{head}: {'; '.join(clauses)}")
         check(name, wrong)
     found, seen, there = [], 0, 0
     for path in sorted(ROOT.glob("crates/*/src/**/*.rt")):
@@ -125,7 +151,7 @@ def declared(module):
 
 def functions(crate, module):
     paths = [ROOT / "crates" / crate / "src" / f"{module}.rt"] if module else [ROOT / "crates" / crate / "src" / "lib.rt"]
-    return {name for p in paths if p.exists() for name in re.findall(r"^(?:#\[\w+\] )?(?:pub )?(?:extern \"C\" )?fn (\w+)", p.read_text(), re.M)}
+    return {name for p in paths if p.exists() for name in re.findall(r"^(?:#\[[^\n]*\] )?(?:pub(?:\([^)\n]*\))? )?(?:extern \"C\" )?fn (\w+)", p.read_text(), re.M)}
 
 
 # An edit, as CRATE/NAME: wherever CRATE is a folder under crates, and so each of several in a cell.
@@ -173,7 +199,7 @@ def commands(rows, tables, names):
     """The commands that the rules' rows and tables and tools/names.txt do not both have."""
     found = []
     for sort, place in ("read", 1), ("write", 2):
-        rest = re.search(rf"^{sort}Only =(.*?)\[\]", tables, re.M | re.S)
+        rest = re.search(rf"^{sort}_only =(.*?)\[\]", tables, re.M | re.S)
         have = {int(m[place], 16) for m in re.finditer(r"^row_of \w+ = row (0x\w+) (0x\w+) ", rows, re.M)}
         have |= {int(number, 16) for number in re.findall(r"\((0x\w+), ", rest[1])}
         named = {int(number, 16) for number in re.findall(rf"^register {sort} (0x\w+) ", names, re.M)}
@@ -249,7 +275,7 @@ TYPES = {"History"}
 
 def proves(proof, crate, stem, name):
     """Whether a proof's file has the claim by its type, and the name is the claim's: taken from its own file, and nothing else called so."""
-    taken = re.search(rf"^use Rattle·{crate}·specs\.specs\.{stem}\.{{(?:.*, )?{name}(?:, .*)?}}$", proof, re.M)
+    taken = re.search(rf"^use Rattle\.{crate}\.specs\.{stem}\.{{(?:.*, )?{name}(?:, .*)?}}$", proof, re.M)
     other = re.search(rf" as {name}\b|^\s*(?:pub |abbrev |unfoldable |record |data )+{name}\b", proof, re.M)
     return bool(taken and not other and re.search(rf"^pub [^\s:]+ : {name}$", proof, re.M))
 
@@ -269,10 +295,10 @@ def bench(text):
 
 
 def claims():
-    good = "use Rattle·c·specs.specs.S.{A, B}\n\npub a : A\n"
+    good = "use Rattle.c.specs.S.{A, B}\n\npub a : A\n"
     said = {"S": "abbrev pub A : Type 0\nabbrev pub B : Type 0\n"}
     check("a claim without its proof is found", differs(unproved("c", said, [good]), ["S.B"]))
-    for what, wrong in ("of another file", good.replace("specs.S", "specs.T")), ("renamed", good.replace("{A", "{B as A")), ("defined anew", good + "\nabbrev A : Type 0\nA = B\n"):
+    for what, wrong in ("of another file", good.replace("specs.S.", "specs.T.")), ("renamed", good.replace("{A", "{B as A")), ("defined anew", good + "\nabbrev A : Type 0\nA = B\n"):
         check(f"a proof of a name that is {what} is found", differs(unproved("c", said, [wrong]), ["S.A", "S.B"]))
     found, seen = [], 0
     for crate in sorted((ROOT / "crates").iterdir()):
@@ -333,7 +359,25 @@ def places(crate, name):
 
 def unrefused(log, crate, name):
     """Why an edit shows nothing."""
+    if not re.search("^logic=not-proved$", log, re.M):
+        return "the prover gave no verdict"
     return next((why for at in places(crate, name) if (why := unfit(log, at))), "")
+
+
+def told(gate, crate, name):
+    """Why what `rt ci` tells of an edit shows nothing: it is to be refused, at an error that is one of a fact, and not only by a limit of the prover or a
+    name that is gone, which rt tells in brackets."""
+    lines = re.findall(rf"^rt: must-fail {crate}/{re.escape(name)}\.edit: (.*)$", gate, re.M)
+    if len(lines) != 1:
+        return f"rt ci tells of it {len(lines)} times"
+    m = re.fullmatch(r"refused, as it must be: (\S+:\d+:\d+: error.*|note: .*|error.*)", lines[0])
+    return unfit(m[1]) if m else f"rt ci: {lines[0][:160]}"
+
+
+def whole(gate, edits):
+    """What is wrong with the end of what `rt ci` said, where it tried so many edits."""
+    ok = re.findall(r"^rt: ok; handles allowed: none; must-fail edits: (\d+) refused(.*?);", gate, re.M)
+    return [] if ok == [(str(edits), "")] and re.search(r"^\d+ passed, 0 failed\n\Z", gate, re.M) else [f"it says {ok}"]
 
 
 # What the gate may spend on edits, whatever has landed: of its 25 minutes some twelve, at five to six seconds of one core for a weight of 1. An edit
@@ -352,11 +396,11 @@ def spent(edits):
 
 def budget():
     check("the weight of edits is counted", differs([spent(["rules", "chip", "none"])], [21]))
-    crates = [path.parts[-3] for path in ROOT.glob("crates/*/must-fail/*.edit")]
+    crates = [crate for crate, _ in must_fail()]
     check(f"{len(crates)} must-fail edits weigh {spent(crates)}: at most {BUDGET}", [] if spent(crates) <= BUDGET else ["they weigh more"])
     bare = [crate for crate in {path.parent.parent.name for path in ROOT.glob("crates/*/src/lib.rt")} if crate not in crates]
     check("every library has an edit", bare)
-    for sort, edits in ("named edits of the mutation run", named()), ("must-fail edits", [(path.parts[-3], path) for path in sorted(ROOT.glob("crates/*/must-fail/*.edit"))]):
+    for sort, edits in ("named edits of the mutation run", named()), ("must-fail edits", must_fail()):
         found = []
         for crate, path in edits:
             try:
@@ -372,50 +416,88 @@ def budget():
 
 
 def edits():
-    check("an edit that only breaks the proof's form is found", [] if unfit("a.antt:1:1: error: it has no `Need-x` that", []) else ["it is not"])
-    log = "a.antt:1:1: error: `rw`: no occurrence of the path's left endpoint"
+    form = ["it has no `Need-x` that", "`true` is not in scope: add", "module `M` has no `f` that can be named", "a record `R` has no field `x`"]
+    check("an edit that only breaks the proof's form is found", [text for text in form if not unfit(f"a.antt:1:1: error: {text}", [])])
+    follows = "./proofs/Tables.antt:1:1: error: 2 declarations that depend on `x`, which was {}, were not checked: y, z (via y)"
+    check("what only follows from an error counts as none", [text for how in ("rejected", "not admitted") if not unfit(text := follows.format(how), ["proofs/Tables.antt"])])
+    log = "a.antt:1:1: error: `rw`: no occurrence of the path's left endpoint\nlogic=not-proved"
     check("an edit refused at a rewrite counts", [unfit(log, [])] if unfit(log, []) else [])
     check("an edit of the rules refused outside the tables and the theorem is found", [] if unfit(log, TABLES + THEOREM) else ["it is not"])
-    law = "proofs/Steps.antt:1:1: error: x\nproofs/Tables.antt:1:1: error: x".replace("proofs", "rules/proofs")
-    claim = law + "\nrules/proofs/Ended.antt:1:1: error: x"
+    advice = "note: finished `.antt` files with imports that nothing uses: 1\n"
+    noted = "note: src/lib.rt:35:1: it is not proved that what the function ensures holds when it returns (`returns`)"
+    check("advice is no error, and a fact that is not proved of the code is one", differs([bool(unfit(advice)), bool(unfit(advice + noted))], [True, False]))
+    law = "./proofs/Steps.antt:1:1: error: x\n./proofs/Tables.antt:1:1: error: x\nlogic=not-proved"
+    claim = law + "\n./proofs/Ended.antt:1:1: error: x"
     check("an edit that no claim of the end of a conversion refuses is found", differs([bool(unrefused(log, "rules", ENDED[0])) for log in (law, claim)], [True, False]))
+    check("an edit with no verdict is found", [] if unrefused("./proofs/Steps.antt:1:1: error: x", "chip", "a") else ["it is not"])
+    line = "rt: must-fail c/a.edit: {}\n"
+    good = "refused, as it must be: ./proofs/f/Proof.antt:1:1: error: x"
+    check("an edit that rt ci refuses at a fact is accepted", [why] if (why := told(line.format(good), "c", "a")) else [])
+    bad = ["NOT REFUSED: the crate", "BAD EDIT: it changes nothing", "refused, as it must be", "refused, as it must be (only by a limit of the prover): ./a.antt:1:1: error: x",
+           "refused, as it must be (only because a proof file names it): ./a.antt:1:1: error: x", "refused, as it must be: ./a.antt:1:1: error: it has no `Need-x` that"]
+    check("an edit that rt ci refuses otherwise, or not, is found", [text for text in bad if not told(line.format(text), "c", "a")])
+    check("an edit of which rt ci tells nothing is found", [] if told(line.format(good), "c", "b") else ["it is not"])
+    ends = "rt: ok; handles allowed: none; must-fail edits: 7 refused{}; every proof\n8 passed, 0 failed\n"
+    check("a bad edit in the gate is found", differs([bool(whole(ends.format(text), 7)) for text in ("", ", 1 bad", ", 2 of them only by a limit")], [False, True, True]))
+    gate = GATE.read_text() if GATE.exists() else ""
+    check(f"rt ci tried the {len(must_fail())} must-fail edits, and none was bad or refused only by a limit", whole(gate, len(must_fail())))
     missing = [name for name in [*ALARMS, *LEFT, *BESIDES] if not (ROOT / "crates" / "rules" / "must-fail" / f"{name}.edit").exists()]
     check("the edits that the alarm theorem and what an event leaves alone must refuse are there", missing)
-    found, seen = [], 0
-    for path in sorted(ROOT.glob("crates/*/must-fail/*.edit")):
-        crate = path.parts[-3]
-        log = ROOT / "target" / "must-fail" / crate / path.stem / ".log"
-        seen += 1
-        if not log.exists():
-            found.append(f"{crate}/{path.stem}: not tried")
-        elif why := unrefused(log.read_text(), crate, path.stem):
+    found, digests = [], Digests()
+    for crate, path in must_fail():
+        log = said_of(crate, digests, path)
+        if why := told(gate, crate, path.stem) or ("not checked by tests/trials.py" if log is None else unrefused(log, crate, path.stem)):
             found.append(f"{crate}/{path.stem}: {why}")
-    check(f"{seen} must-fail edits are refused in a proof that fits the code's form, those of definitions by a table or a claim", found)
+    check(f"{len(must_fail())} must-fail edits are refused in a proof that fits the code's form, those of definitions by a table or a claim", found)
 
 
 # ---- what the proofs rest on
 
 
-def resting(said, axioms):
-    """What a crate's check took on trust beyond what docs/PROMISES.md says: its lines, and how many axioms it may count."""
+# The contracts of C that a program may rest on: those by which std reads, writes and tells an error.
+OF_C = ["libc::lseek", "libc::read", "libc::write", "os::c::__xpg_strerror_r", "os::c::rattle_errno"]
+
+
+def resting(said, axioms, trusted):
+    """What a crate's check took on trust beyond what docs/PROMISES.md says: its lines, the axioms that it may name, and what may be trusted."""
     lines = [line for line in said.splitlines() if line.startswith("logic=")]
     if len(lines) != 1 or not lines[0].startswith("logic=proved "):
         return ["it is not proved"]
     words = dict(word.partition("=")[::2] for word in lines[0].split())
-    found = [] if int(words.get("axioms", 0)) == axioms else [f"axioms: {words.get('axioms', 0)}"]
-    trusted = {"logic-built": "trusted", "libraries-built": "trusted"}
+    named = sorted(name for names in re.findall(r"^axioms \w+: (.*) \(\d+ of the \d+ declared\)$", said, re.M) for name in names.split(", "))
+    found = [] if int(words.get("axioms", 0)) == len(axioms) and named == sorted(axioms) else [f"axioms: {words.get('axioms', 0)}: {', '.join(named)}"]
     return found + [f"{name}={value}" for name, value in words.items() if name == "foreign" or value == "trusted" and name not in trusted]
 
 
+def proved_by(gate, crate):
+    """What `rt ci` said of a crate's own proof, or '' where it tells that an earlier run of it proved the same files; None where it tells neither."""
+    if m := re.search(rf"^== {crate}\n((?:(?!== ).*\n)*?)rt: {crate} proved$", gate, re.M):
+        return m[1]
+    return "" if re.search(rf"^rt: {crate} is kept: an earlier run on this machine proved the same files over the same libraries$", gate, re.M) else None
+
+
 def trust():
-    good = "logic=proved functions=4 axioms=2 target=x native=nat logic-built=trusted libraries-built=trusted"
-    check("two axioms where two are meant are none too many", resting(good, 2))
-    for name, said in [("an axiom too many", good), ("a cache", good.replace("axioms=2", "cache=trusted")), ("a crate that is not proved", "logic=not-proved")]:
-        check(f"{name} is found", [] if resting(said, 0) else ["it is not"])
+    """`rt ci` proves from nothing, and shows what a proof rests on, unless an earlier run of it did so. So its own lines are held to no cache where they are
+    there, and to nothing else's words; and each crate's check by tests/trials.py, over what earlier checks kept (`incremental`), to its axioms."""
+    built = {"logic-built", "libraries-built", "statements"}
+    good = "axioms libc: libc::read, libc::write (2 of the 9 declared)\nlogic=proved functions=4 axioms=2 native=nat logic-built=trusted libraries-built=trusted"
+    two = ["libc::read", "libc::write"]
+    check("two axioms where two are meant are none too many", resting(good, two, built))
+    for name, said, axioms in [
+        ("an axiom too many", good, []), ("another axiom", good.replace("::read", "::fork"), two), ("an axiom too few", good, [*two, "libc::lseek"]),
+        ("a cache", good + " cache=trusted", two), ("a proof over what was kept", good + " incremental=trusted", two), ("a function of C", good + " foreign=1", two),
+        ("a crate that is not proved", "logic=not-proved", []),
+    ]:
+        check(f"{name} is found", [] if resting(said, axioms, built) else ["it is not"])
+    gate = "== a\nlogic=proved x=1\nrt: a proved\n== b\nlogic=not-proved\nrt: b NOT PROVED\n== c: its tests\nrt: c: its tests are proved\nrt: d is kept: an earlier run on this machine proved the same files over the same libraries\n"
+    check("what rt ci says of a crate is told apart", differs([proved_by(gate, name) for name in "abcd"], ["logic=proved x=1\n", None, None, ""]))
+    gate, digests = GATE.read_text() if GATE.exists() else "", Digests()
     for path in sorted((ROOT / "crates").iterdir()):
-        log = ROOT / "target" / "log" / f"{path.name}.out"
-        axioms = 2 if (path / "src" / "main.rt").exists() else 0
-        check(f"{path.name} rests on {axioms} axioms and no cache", resting(log.read_text(), axioms) if log.exists() else ["it was not checked"])
+        own, said = proved_by(gate, path.name), said_of(path.name, digests)
+        axioms = OF_C if (path / "src" / "main.rt").exists() else []
+        wrong = ["rt ci did not prove it"] if own is None else resting(own, axioms, built) if own else []
+        wrong += ["it was not checked by tests/trials.py"] if said is None else resting(said, axioms, built | {"incremental"})
+        check(f"{path.name} rests on {len(axioms)} axioms, and rt ci proved it from no cache", wrong)
 
 
 # ---- the hand-worked cases
@@ -425,11 +507,12 @@ def cases():
     tool = ROOT / "tools" / "cases.py"
     run = subprocess.run([sys.executable, tool, "check"], capture_output=True, text=True)
     check("the cases' program has what tests/cases.txt says", [run.stderr] if run.returncode else [])
-    log = ROOT / "target" / "log" / "cases.stdout"
-    wrote = log.read_text() if log.exists() else ""
-    check("the cases were run", [] if wrote else ["target/log/cases.stdout is not there or empty"])
-    run = subprocess.run([sys.executable, tool, "show"], input=wrote, capture_output=True, text=True)
-    check("every case is as document 01 has it", run.stdout.splitlines()[-1:] if run.returncode else [])
+    for by, name in ("LLVM", "stdout"), ("Rattle's own compiler", "stdout.by-rattle"):
+        log = ROOT / "crates" / "cases" / "out" / name    # as rt ci leaves it
+        wrote = log.read_text() if log.exists() else ""
+        check(f"the cases were run, built by {by}", [] if wrote else [f"crates/cases/out/{name} is not there or empty"])
+        run = subprocess.run([sys.executable, tool, "show"], input=wrote, capture_output=True, text=True)
+        check(f"every case, built by {by}, is as document 01 has it", run.stdout.splitlines()[-1:] if run.returncode else [])
     spoilt = wrote.replace("0 18 0 0", "0 18 0 1", 1)
     run = subprocess.run([sys.executable, tool, "show"], input=spoilt, capture_output=True, text=True)
     check("a wrong answer is found", [] if run.returncode else ["it is not"])

@@ -1,5 +1,5 @@
 #!/usr/bin/env python3
-"""From what `rt ci` said: seconds for each crate, of its proofs and of its must-fail edits, as the wall clock has them with others beside them (RT_JOBS).
+"""From what tests/trials.py said: seconds for each crate of its must-fail edits, as the wall clock has them with others beside them. `rt ci` tells no times.
 
     tests/seconds.py LOG
 """
@@ -10,16 +10,14 @@ from pathlib import Path
 
 
 def main():
-    said = Path(sys.argv[1]).read_text()
-    proofs = {name: int(took) for name, took in re.findall(r"^rt: (\w+) proved \((\d+) s\)", said, re.M)}
     edits, count = Counter(), Counter()
-    for crate, took in re.findall(r"^rt: must-fail (\w+)/\w+: .*?(\d+) s\)$", said, re.M):
+    for crate, took in re.findall(r"^(\w+)/[\w-]+: (\d+) s\b", Path(sys.argv[1]).read_text(), re.M):
         edits[crate] += int(took)
         count[crate] += 1
-    print("seconds by crate: proofs; edits, and how many")
-    for name in proofs:
-        print(f"  {name:14} {proofs[name]:4} {edits[name]:6} {count[name]:5}")
-    print(f"  {'all':14} {sum(proofs.values()):4} {sum(edits.values()):6} {sum(count.values()):5}")
+    print("seconds by crate: edits, and how many")
+    for name in edits:
+        print(f"  {name:14} {edits[name]:6} {count[name]:5}")
+    print(f"  {'all':14} {sum(edits.values()):6} {sum(count.values()):5}")
 
 
 main()

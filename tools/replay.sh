@@ -1,6 +1,6 @@
 #!/usr/bin/env bash
-# The small program: a trace on standard input, its answers on standard output. Builds it where it is missing or old, then runs it as rt runs a program:
-# under the kit's loader and C library and, on a processor that is not x86-64, under the kit's emulator.
+# The small program: a trace on standard input, its answers on standard output. Builds it where it is missing or old, then runs it. It is an x86-64
+# program; on another machine Debian's emulator and C library stand in, and are installed where they are missing.
 set -euo pipefail
 usage="usage: tools/replay.sh < TRACE    (for address 76, at most 24 KiB; tools/answer.sh takes 16 MiB, files and address 77)"
 case ${1-} in
@@ -8,20 +8,15 @@ case ${1-} in
     -h | --help) echo "$usage"; exit ;;
     *) echo "$usage" >&2; exit 2 ;;
 esac
-root=$(dirname "$0")/..
-program=$root/target/bin/console
-if [[ ! -e $program || -n $(find "$root/crates" "$root/crates.txt" -newer "$program" -print -quit) ]]; then
-    mkdir -p "$root/target"
-    if [[ -t 2 ]]; then
-        echo "proving and building the small program: some five minutes at the first run" >&2
-    fi
-    (cd "$root" && rt check console) >"$root/target/console.out" 2>&1 </dev/null || { cat "$root/target/console.out" >&2; exit 1; }
-    touch "$program"    # rt leaves it as it is where nothing that it is made of changed
+cd "$(dirname "$0")/.."
+. tools/crates.sh
+program=target/bin/console
+from_crate "$program" console run console "small program" </dev/null    # rt runs what it built: here on no input
+run=()
+if [[ $(uname -m) != x86_64 ]]; then
+    . tools/need.sh
+    need qemu-x86_64 qemu-user </dev/null
+    [[ -e /usr/x86_64-linux-gnu/lib/libc.so.6 ]] || need x86_64-linux-gnu-gcc gcc-x86-64-linux-gnu libc6-dev-amd64-cross </dev/null
+    run=(qemu-x86_64 -L /usr/x86_64-linux-gnu)
 fi
-kit=$(dirname "$(dirname "$(rt doc)")")
-tools=$kit/on/$(uname -m)/toolchain
-run=("$tools/lib/ld-linux-x86-64.so.2" --library-path "$tools/lib" "$program")
-if [[ -x $tools/bin/qemu-x86_64 ]]; then
-    run=("$tools/bin/qemu-x86_64" "${run[@]}")
-fi
-exec "${run[@]}"
+exec "${run[@]}" "$program"

@@ -5,6 +5,7 @@
 #   x86_tool NAME                                     builds target/tools/NAME of tools/NAME.c, where it is missing or old
 
 . tools/need.sh
+. tools/crates.sh
 need_x86
 if [[ $(uname -m) == x86_64 ]]; then
     x86_cc=(gcc)
@@ -15,14 +16,7 @@ else
 fi
 
 x86_library=target/staticlib/libdlaveth.a
-if [[ ! -e $x86_library || -n $(find crates crates.txt -newer "$x86_library" -print -quit) ]]; then
-    command -v rt >/dev/null || { echo "the library is missing or older than crates, and rt, which proves and builds it, is not on the PATH" >&2; exit 1; }
-    mkdir -p target
-    if [[ -t 2 ]]; then
-        echo "proving and building the library: some five minutes at the first run" >&2
-    fi
-    rt staticlib dlaveth >target/staticlib.out 2>&1 || { cat target/staticlib.out >&2; exit 1; }
-fi
+from_crate "$x86_library" dlaveth lib libdlaveth.a library || exit 1
 
 x86_tool() {
     local program=target/tools/$1 part

@@ -23,10 +23,11 @@ SIGNS = {
     "<": "<=", "<=": "<", "==": "!=", "!=": "==", "&&": "||", "||": "&&", "&": "|", "|": "&", "+": "-", "-": "+",
     "*": "+", "/": "*", "%": "/", "+=": "-=",
 }
+LESS = {"<": "≤", "≤": "<"}    # of definitions
 SIGN = re.compile(r"(?<= )(<=|==|!=|&&|\|\||\+=|[<&|+*/%-])(?= )")
 NUMBER = re.compile(r"(?<![\w.·])(0x[0-9a-f]+|[0-9]+)(?![\w.])")
 WORD = re.compile(r"(?<![\w·-])[A-Za-z]\w*(?![\w·-])")
-ATOM = re.compile(r"\s*([\w·']+)")
+ATOM = re.compile(r"\s*([\w·']+(?:\.\w+)*)")
 
 
 def closing(text, at):
@@ -73,6 +74,8 @@ def of_definitions(text):
     for m in re.finditer(r"(?<![\w·])(ltb|leb)(?= )", text):
         if args := arguments(text, m.end(), 2):
             yield "sides exchanged", args[0][0], args[1][1], exchanged(text, args[0], args[1])
+    for m in re.finditer(r"(?<= )([<≤])(?= )", text):
+        yield f"{LESS[m[1]]} for {m[1]}", m.start(), m.end(), LESS[m[1]]
     for m in re.finditer(r"(?<![\w·])not (\([^()]*\)|\w+)", text):
         yield "not dropped", m.start(), m.end(), m[1]
     for m in re.finditer(r"(\w+) = ([^;{}]*);( |\n\s+)(\w+) = ([^;{}]*)(?=;| \})", text):
@@ -108,7 +111,7 @@ def parts(text):
 
 
 PLAIN = {"u8": "0", "u16": "0", "i16": "0", "i32": "0", "usize": "0", "bool": "false", "Channel": "Channel::Local",
-         "ℕ": "0", "Bool": "false", "ℤ": "(lib.IntN.ℤ.pos 0)"}
+         "ℕ": "0", "Bool": "false", "ℤ": "(Rattle.std.specs.Prelude.pos 0)"}
 
 
 def of_parameters(text, head):
@@ -135,14 +138,14 @@ def of_signature(text, head):
                 for m in re.finditer(rf"(?<![\w·.-]){re.escape(name)}(?![\w·-]| =)", text):
                     yield "parameter ignored", m.start(), m.end(), new
     if sorts[-1] == "Bool" and text.strip():
-        yield "denied", len(text) - len(text.lstrip()), len(text.rstrip()), f"mathlib.Core.Bool.not ({text.strip()})"
+        yield "denied", len(text) - len(text.lstrip()), len(text.rstrip()), f"Rattle.std.specs.Prelude.not ({text.strip()})"
     for m in re.finditer(r"(?:(?<=[({=] )|(?<=∷ )|(?<=\n    )|(?<=\A ))((?:[\w.]+|\([^()]*\))(?: (?:[\w.]+|\([^()]*\)))*) ∷ (?!\[\]\s*$)", text):
         yield "element dropped", m.start(), m.end(), ""
     for m in re.finditer(r"(?<![\w·.-])(true|false)(?![\w·-])", text):
-        yield "another word", m.start(), m.end(), f"mathlib.Core.Bool.{WORDS[m[0]][0]}"
+        yield "another word", m.start(), m.end(), f"Rattle.std.specs.Prelude.{WORDS[m[0]][0]}"
     for m in re.finditer(r"(\w+) = (\w+)(?=[; ])", text):
-        if owner := re.search(r"= (\w+) \.\w+", text):
-            yield "field kept", m.start(2), m.end(2), f"{owner[1]} .{m[1]}"
+        if owner := re.search(r"= (\w+)\.\w+", text):
+            yield "field kept", m.start(2), m.end(2), f"{owner[1]}.{m[1]}"
 
 
 def of_code(text):

@@ -16,9 +16,7 @@ does a survivor that tests/mutation/explained.txt does not explain.
 import argparse
 import hashlib
 import json
-import os
 import re
-import shutil
 import subprocess
 import sys
 import threading
@@ -28,6 +26,7 @@ from pathlib import Path
 
 ROOT = Path(__file__).resolve().parent.parent.parent
 sys.path.insert(0, str(ROOT / "tests"))
+from copies import NOT_STORED, Copy, dependencies    # noqa: E402
 from named import changed, named    # noqa: E402
 from refusals import errors_of, said_by, unfit    # noqa: E402
 from edits import edits    # noqa: E402
@@ -40,16 +39,6 @@ ATTEMPTS = 12    # edits of one unit that may turn out to be no trial, for each 
 REFUSED, SURVIVED, UNTRIED = "refused", "survived", "not tried"
 
 
-def dependencies():
-    """Each crate with those that it names, in the order of crates.txt."""
-    found = {}
-    for line in (ROOT / "crates.txt").read_text().splitlines():
-        name, colon, rest = line.partition("#")[0].partition(":")
-        if colon:
-            found[name.strip()] = rest.split()
-    return found
-
-
 def above(crate, deps):
     """The crates that build on one, directly or not, in the order of crates.txt."""
     reached = [crate]
@@ -59,27 +48,34 @@ def above(crate, deps):
     return reached[1:]
 
 
+def sources(crate):
+    """The files of code, definitions and proofs, which rt's own folder out/ may repeat."""
+    paths = [path for part in ("src", "specs", "proofs") for path in (ROOT / "crates" / crate / part).rglob("*")]
+    return sorted(path for path in paths if path.suffix in (".antt", ".rt"))
+
+
 class Reach:
     """Which crates could notice that a definition says something else: those that import it, or what is said with it, and so on; and where a
-    function's contract does, every crate above it. A module taken whole (`use .. as`) is not followed: what is taken so has other ways here."""
+    function's contract does, every crate above it. A module taken whole (`use .. as`) is not followed: what is taken so has other ways here. What a
+    function's attribute names, as `rules::specs::Step::step_of`, counts as imported."""
 
     USE = re.compile(r"^(?:ghost )?use (\S+?)\.\{([^}]*)\}", re.M)
     NAME = re.compile(r"^ {0,2}(?:(?:abbrev|unfoldable|pub|data|record) )*([^\s(){},;.:]+)(?= :| \()", re.M)
-    WORD = re.compile(r"[^\s(){},;.⌜⌝]+")
+    NAMED = re.compile(r"\w+::(?:specs|proofs)::(\w+)::(\w+)")
+    WORD = re.compile(r"[^\s(){},;.:]+")
 
     def __init__(self, deps):
         self.deps, self.files = deps, []
         for crate in deps:
-            for path in sorted((ROOT / "crates" / crate).rglob("*")):
-                if path.suffix in (".antt", ".rt") and "must-fail" not in path.parts:
-                    text = path.read_text()
-                    taken = {}    # a name as the file has it: the module and the name that it stands for
-                    for module, names in self.USE.findall(text):
-                        for name in names.split(","):
-                            whole, _, local = name.strip().partition(" as ")
-                            taken[local or whole] = (module.rsplit(".", 1)[-1], whole)
-                    parts = [(set(self.WORD.findall(part)), set(self.NAME.findall(part))) for part in self.USE.sub("", text).split("\n\n")]
-                    self.files.append((crate, path, taken, parts))
+            for path in sources(crate):
+                text = path.read_text()
+                taken = {name: (module, name) for module, name in self.NAMED.findall(text)}    # a name as the file has it: the module and the name that it stands for
+                for module, names in self.USE.findall(text):
+                    for name in names.split(","):
+                        whole, _, local = name.strip().partition(" as ")
+                        taken[local or whole] = (module.rsplit(".", 1)[-1], whole)
+                parts = [(set(self.WORD.findall(part)), set(self.NAME.findall(part))) for part in self.USE.sub("", text).split("\n\n")]
+                self.files.append((crate, path, taken, parts))
 
     def crates(self, unit):
         changed, found, before = {(unit.path.stem, unit.name)}, set(), None
@@ -97,48 +93,25 @@ class Reach:
 class Worker:
     """A copy of the crates and of what is proved of them, in which one edit at a time stands."""
 
-    def __init__(self, number, deps, reach):
-        self.root, self.deps, self.reach = PLACE / f"worker{number}", deps, reach
-        shutil.rmtree(self.root, ignore_errors=True)
-        (self.root / "target").mkdir(parents=True)
-        shutil.copytree(ROOT / "crates", self.root / "crates")
-        shutil.copy(ROOT / "crates.txt", self.root)
-        for part in ["rlib", "stamp", "bin", "inc"]:
-            shutil.copytree(ROOT / "target" / part, self.root / "target" / part, symlinks=True)
-
-    def restore(self, crates):
-        """What is proved of these crates, as it is without an edit."""
-        for name in crates:
-            for part in [f"rlib/{name}.rlib", f"stamp/{name}", f"bin/{name}"]:
-                have, good = self.root / "target" / part, ROOT / "target" / part
-                if have.is_dir():
-                    shutil.rmtree(have)
-                elif have.exists():
-                    have.unlink()
-                if good.is_dir():
-                    shutil.copytree(good, have, symlinks=True)
-                elif good.exists():
-                    shutil.copy2(good, have)
-
-    def rt(self, verb, crate):
-        done = subprocess.run(["rt", verb, crate], cwd=self.root, env=os.environ | {"RT_JOBS": "1", "RT_CUT": "0"}, capture_output=True, text=True)
-        return done.returncode == 0, done.stdout + done.stderr
+    def __init__(self, copy, deps, reach):
+        self.copy, self.root, self.deps, self.reach = copy, copy.root, deps, reach
 
     def own(self, crate):
-        """Whether the crate itself is proved, and what was said; over what earlier trials found, which is many times faster."""
-        return self.rt("dev", crate)
+        """Whether the crate itself is proved, and what was said; over what was proved of it without an edit, which is many times faster."""
+        return self.copy.check(crate)
 
     def higher(self, crate):
-        """Whether a crate, and each below it that is no longer as it was proved, is proved; the lowest that is not, and what was said of it."""
-        shutil.rmtree(self.root / "target" / "log", ignore_errors=True)
-        proved, said = self.rt("check", crate)
+        """Whether a crate, and each below it that is no longer as it was proved, is proved, and a program writes what is stored; the lowest that is
+        not, and what was said of it."""
+        proved, said = self.copy.check(crate)
+        if proved and self.is_program(crate):
+            proved, said = self.copy.runs(crate)
         if proved:
             return True, crate, said
-        for name in self.deps:
-            result, log = (self.root / "target" / "log" / f"{name}.{end}" for end in ("res", "out"))
-            if result.exists() and result.read_text().strip() != "proved":
-                return False, name, said if "is not what its file" in said else log.read_text()
-        raise RuntimeError(f"the toolchain failed: {said}")
+        refusing = re.search(r"^rt: the library (\w+) did not build", said, re.M)
+        if "logic=not-proved" not in said and NOT_STORED not in said:
+            raise RuntimeError(f"the toolchain failed: {said}")
+        return False, refusing[1] if refusing else crate, said
 
     def verdict(self, unit, edit):
         """What became of an edit, the first error or why it was no trial, the crate where that was seen, and what refused it."""
@@ -159,7 +132,7 @@ class Worker:
             return SURVIVED, "", "", ""
         finally:
             path.write_text(text)
-            self.restore(touched)
+            self.copy.restore(touched)
 
     def is_program(self, crate):
         """A program is also run, and what it writes is held to what is stored."""
@@ -178,16 +151,16 @@ class Worker:
         finally:
             for path, text in before.items():
                 (self.root / path).write_text(text)
-            self.restore([crate])
+            self.copy.restore([crate])
 
     def judged(self, log, unit):
         errors = errors_of(log)
-        first = re.sub(rf"{re.escape(str(self.root))}/", "", errors[0])[:300] if errors else log[-300:]
+        first = errors[0][:300] if errors else log[-300:]
         if "logic=not-proved" not in log:
             # a program that is proved and writes something else is refused by its stored output
-            return (REFUSED, "its program writes something else") if "is not what its file" in log else (UNTRIED, f"not compiled: {first}")
+            return (REFUSED, "its program writes something else") if NOT_STORED in log else (UNTRIED, f"not compiled: {first}")
         if why := unfit(log):
-            return UNTRIED, why.replace(f"{self.root}/", "")
+            return UNTRIED, why
         if unit and unit.path.suffix == ".antt" and f"/{Path(*unit.path.parts[2:])}:" in errors[0].split(" error")[0]:
             return UNTRIED, f"no definition: {first}"
         return REFUSED, first
@@ -200,7 +173,7 @@ def key_of(unit, edit, text):
 
 def whole():
     """A digest of all that is proved."""
-    paths = [path for path in sorted((ROOT / "crates").rglob("*")) if path.suffix in (".antt", ".rt")]
+    paths = [path for crate in dependencies() for path in sources(crate)]
     return hashlib.sha256(b"".join(path.read_bytes() for path in paths)).hexdigest()[:16]
 
 
@@ -238,14 +211,17 @@ def run(todo, rounds, jobs, deps, results):
     queue = [(number, unit, found) for number in range(1, rounds + 1) for unit, found in todo]
     lock, at, reach, broken = threading.Lock(), iter(enumerate(queue, 1)), Reach(deps), []
 
-    def guarded(number):
+    def guarded():
         try:
-            work(number)
+            work()
         except BaseException as error:    # a thread's own end would be silent
             broken.append(error)
 
-    def work(number):
-        worker = Worker(number, deps, reach)
+    def work():
+        with Copy() as copy:
+            try_all(Worker(copy, deps, reach))
+
+    def try_all(worker):
         while True:
             with lock:
                 place, (wanted, unit, found) = next(at, (None, (None, None, None)))
@@ -263,7 +239,7 @@ def run(todo, rounds, jobs, deps, results):
                              "new": edit.new, "verdict": verdict, "at": crate, "by": by, "why": why, "seconds": round(time.time() - began, 1)})
                 print(f"{place}/{len(queue)} {unit.path}:{unit.name}: {edit.kind}: {verdict} {crate if verdict == REFUSED else ''}", flush=True)
 
-    threads = [threading.Thread(target=guarded, args=(number,)) for number in range(jobs)]
+    threads = [threading.Thread(target=guarded) for _ in range(jobs)]
     for thread in threads:
         thread.start()
     for thread in threads:
@@ -331,8 +307,11 @@ def try_named(jobs, deps):
     """The named edits that were not refused at a fact, with why."""
     todo, lock, wrong = iter(named()), threading.Lock(), []
 
-    def work(number):
-        worker = Worker(number, deps, None)
+    def work():
+        with Copy() as copy:
+            try_all(Worker(copy, deps, None))
+
+    def try_all(worker):
         while True:
             with lock:
                 crate, path = next(todo, (None, None))
@@ -346,7 +325,7 @@ def try_named(jobs, deps):
             if verdict != REFUSED:
                 wrong.append(f"{crate}/{path.stem}: {verdict} {why}")
 
-    threads = [threading.Thread(target=work, args=(number,)) for number in range(jobs)]
+    threads = [threading.Thread(target=work) for _ in range(jobs)]
     for thread in threads:
         thread.start()
     for thread in threads:
@@ -367,11 +346,11 @@ def main():
     PLACE.mkdir(parents=True, exist_ok=True)
     results, wrong = Results(), []
     if not words.report:
-        if subprocess.run(["rt", "check"], cwd=ROOT, stdout=subprocess.DEVNULL).returncode:
-            sys.exit("the crates are not proved as they are")
-        for crate in deps:    # what the trials of each crate start from
-            if subprocess.run(["rt", "dev", crate], cwd=ROOT, stdout=subprocess.DEVNULL).returncode:
-                sys.exit(f"{crate} is not proved as it is")
+        for crate in deps:    # what the trials of each crate start from: what is proved of it, and the library that it is
+            is_program = (ROOT / "crates" / crate / "src" / "main.rt").exists()
+            for command in "check", "run" if is_program else "lib":
+                if subprocess.run(["rt", command], cwd=ROOT / "crates" / crate, stdin=subprocess.DEVNULL, stdout=subprocess.DEVNULL, stderr=subprocess.DEVNULL).returncode:
+                    sys.exit(f"{crate} is not proved as it is")
         if words.named or not words.crate:
             wrong = try_named(words.jobs, deps)
             for line in wrong:

@@ -5,14 +5,14 @@ from collections import namedtuple
 # `path` is from the repository's root; `spans` are the places in the file's text that may be edited.
 Unit = namedtuple("Unit", "crate path name spans claim")    # a claim is a definition that is a statement
 
-FUNCTION = re.compile(r"^(?:#\[\w+\] )?(?:pub )?(?:extern \"C\" )?fn (\w+)", re.M)
+FUNCTION = re.compile(r"^(?:#\[[^\n]*\] )?(?:pub(?:\([^)\n]*\))? )?(?:extern \"C\" )?fn (\w+)", re.M)
 DEFINITION = re.compile(r"^(?:abbrev|unfoldable)(?: pub)? (\S+) : ?(.*)", re.M)
 
 
 def functions(text):
     """Each function's name and the span between its braces."""
     for head in FUNCTION.finditer(text):
-        begin = re.compile(r"^\{$|\) (?:-> \S+ )?\{$", re.M).search(text, head.start())
+        begin = re.compile(r"^\{$|\) (?:-> [^{}\n]+ )?\{$", re.M).search(text, head.start())
         close = re.compile(r"^\}$", re.M).search(text, head.start())
         if begin and close and begin.end() < close.start():
             yield head[1], [(begin.end(), close.start())], False
