@@ -455,7 +455,7 @@ def edits():
 
 
 # The contracts of C that a program may rest on: those by which std reads, writes and tells an error.
-OF_C = ["libc::lseek", "libc::read", "libc::write", "os::c::__xpg_strerror_r", "os::c::rattle_errno"]
+OF_C = ["libc::read", "libc::write", "os::c::__xpg_strerror_r", "os::c::rattle_errno"]
 
 
 def resting(said, axioms, trusted):

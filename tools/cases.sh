@@ -7,13 +7,13 @@ case ${1-} in
     *) echo "usage: tools/cases.sh" >&2; exit 2 ;;
 esac
 cd "$(dirname "$0")/.." || exit 1
-mkdir -p target
-wrote=$PWD/target/cases.stdout
+wrote=$(mktemp) said=$(mktemp)    # two runs at once write apart
+trap 'rm -f "$wrote" "$said"' EXIT
 status=0
 if [ -t 2 ]; then
     echo "proving the chip and building the cases' program: some minutes at the first run" >&2
 fi
-(cd crates/cases && rt run <stdin >"$wrote") 2>target/cases.out || { status=$?; cat target/cases.out >&2; }    # rt speaks on standard error
+(cd crates/cases && rt run <stdin >"$wrote") 2>"$said" || { status=$?; cat "$said" >&2; }    # rt speaks on standard error
 if [ "$status" -eq 0 ]; then
     python3 tools/cases.py show <"$wrote" || status=$?
     cmp "$wrote" crates/cases/stdout || status=1

@@ -3,7 +3,7 @@
 #                                              missing or older than the crates' text. What rt says is shown only where it fails; a terminal is told
 # FILE lies outside out/: `rt ci` clears that, and links there what it proved itself.
 from_crate() {
-    local file=$1 crate=$2 command=$3 made=$4 what=$5
+    local file=$1 crate=$2 command=$3 made=$4 what=$5 part
     # rt makes and moves crates/NAME/out, which says nothing of the text, nor does the time of crates/NAME then
     if [[ -e $file && -z $(find crates.txt crates -path 'crates/*/out' -prune -o '(' -path 'crates/*/*' -o -path crates.txt ')' -newer "$file" -print -quit) ]]; then
         return
@@ -14,6 +14,8 @@ from_crate() {
         echo "proving and building the $what: some five minutes at the first run" >&2
     fi
     (cd "crates/$crate" && rt "$command") >"target/$crate.out" 2>&1 </dev/null || { cat "target/$crate.out" >&2; return 1; }
-    cp "crates/$crate/out/$made" "$file.new"
-    mv "$file.new" "$file"
+    part=$(mktemp -d "$file.XXXXXX")    # two runs at once copy aside and each moves a whole file in
+    cp "crates/$crate/out/$made" "$part/$made"
+    mv "$part/$made" "$file"
+    rmdir "$part"
 }

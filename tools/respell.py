@@ -5,7 +5,6 @@ A name of camel case or with dashes that a file of specs/ or proofs/ declares is
 contracts, edits, documents and the tests' tables. Where a definition and a lemma fall together, the lemma gets `_lem` behind it. In a
 function's proof the steps that are named after functions follow their functions' spelling. Run a second time it changes nothing.
 """
-import os
 import re
 import sys
 from pathlib import Path

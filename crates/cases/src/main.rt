@@ -140,7 +140,7 @@ fn fill<R: Read>(from: &mut R, to: &mut [u8]) -> usize
 
 fn main(rt: HostRuntime) -> io::Result<()> {
     let mut input = [0u8; 65536];
-    let n = fill(&mut rt.reader(), &mut input);
+    let n = fill(&mut rt.stdin(), &mut input);
     let mut out = io::writer(&rt);
     let mut s = chip::fresh(0).state;
     let mut at = 0;

@@ -30,7 +30,7 @@ fn fill<R: Read>(from: &mut R, to: &mut [u8]) -> usize
 
 fn main(rt: HostRuntime) -> io::Result<()> {
     let mut input = [0u8; MOST + 1];
-    let n = fill(&mut rt.reader(), &mut input);
+    let n = fill(&mut rt.stdin(), &mut input);
     let mut out = [0u8; LONGEST];
     let written = answer_trace(&input[..n], &mut out);
     io::writer(&rt).write_all(&out[..written])

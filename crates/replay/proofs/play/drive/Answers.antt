@@ -85,11 +85,11 @@ overflow_add-used c =
 pub loop-out-smaller : goal.loop-out-smaller
 loop-out-smaller c =
     let o = c.loop-out in
-    let g = round c.args.alone c.args.e o.invariant.0 o.invariant.1 c.next_record.ensures c.in-Whole.is c.if-n-eq0.false c.numbers_of.ensures c.step_well-a.ensures c.write_quickly-wrote.ensures c.in-Bytes.is in
-    omega (arith, g.mid.inside, g.long)
+    let turn = round c.args.alone c.args.e o.invariant.0 o.invariant.1 c.next_record.ensures c.in-Whole.is c.if-n-eq0.false c.numbers_of.ensures c.step_well-a.ensures c.write_quickly-wrote.ensures c.in-Bytes.is in
+    omega (arith, turn.mid.inside, turn.long)
 
 pub loop-out-preserved : goal.loop-out-preserved
 loop-out-preserved c =
     let o = c.loop-out in
-    let g = round c.args.alone c.args.e o.invariant.0 o.invariant.1 c.next_record.ensures c.in-Whole.is c.if-n-eq0.false c.numbers_of.ensures c.step_well-a.ensures c.write_quickly-wrote.ensures c.in-Bytes.is in
-    (g.well, g.mid, λ h. absurd (g.none h))
+    let went = round c.args.alone c.args.e o.invariant.0 o.invariant.1 c.next_record.ensures c.in-Whole.is c.if-n-eq0.false c.numbers_of.ensures c.step_well-a.ensures c.write_quickly-wrote.ensures c.in-Bytes.is in
+    (went.well, went.mid, λ h. absurd (went.none h))
