@@ -15,7 +15,7 @@ warn=(-std=c11 -Wall -Wextra -Wpedantic -Wconversion)
 objects=()
 for level in 2 3; do
     own=()
-    for name in replay step fresh seen_counts well_formed answer_fits write_answer write_word; do    # every global name of the second model, so that it can stand twice in one program
+    for name in replay step fresh room seen_counts well_formed answer_fits write_answer write_word; do    # every global name of the second model, so that it can stand twice in one program
         own+=("-Dsecond_$name=o${level}_$name")
     done
     for file in second second_replay; do             # -g changes no instruction, and tells which function each one comes from

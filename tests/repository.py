@@ -270,7 +270,7 @@ def sentences():
 # ---- claims and tables that could be emptied
 
 # Types of the specs that are no claims.
-TYPES = {"History"}
+TYPES = {"History", "Checked", "Line", "Parsed", "Turn"}
 
 
 def proves(proof, crate, stem, name):
@@ -383,8 +383,8 @@ def whole(gate, edits):
 # What the gate may spend on edits, whatever has landed: of its 25 minutes some twelve, at five to six seconds of one core for a weight of 1. An edit
 # costs its crate's own check. A request of document 02 brings at most five edits of definitions and two of code; others make room for them.
 WEIGHTS = {
-    "rules": 1, "text_rules": 1, "replay_rules": 1, "console_rules": 1, "saved_rules": 1, "session_rules": 6, "power": 1, "judge": 1, "values": 2, "channel": 2, "events": 2, "registers": 3,
-    "show": 3, "console": 3, "saved": 3, "dlaveth": 9, "session": 14, "chip": 6, "replay": 8, "text": 11, "change": 8, "parts": 9,
+    "rules": 1, "text_rules": 1, "replay_rules": 3, "console_rules": 1, "saved_rules": 1, "session_rules": 2, "power": 1, "judge": 4, "values": 3, "channel": 3, "events": 2, "registers": 3,
+    "blocks": 2, "show": 3, "console": 6, "saved": 4, "dlaveth": 9, "session": 5, "chip": 3, "replay": 7, "text": 4, "change": 4, "parts": 2,
 }
 BUDGET = 250
 
@@ -395,7 +395,7 @@ def spent(edits):
 
 
 def budget():
-    check("the weight of edits is counted", differs([spent(["rules", "chip", "none"])], [21]))
+    check("the weight of edits is counted", differs([spent(["rules", "chip", "none"])], [13]))
     crates = [crate for crate, _ in must_fail()]
     check(f"{len(crates)} must-fail edits weigh {spent(crates)}: at most {BUDGET}", [] if spent(crates) <= BUDGET else ["they weigh more"])
     bare = [crate for crate in {path.parent.parent.name for path in ROOT.glob("crates/*/src/lib.rt")} if crate not in crates]

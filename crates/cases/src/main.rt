@@ -10,30 +10,22 @@ use rules::event::Numbers;
 use rules::state::State;
 use std::io::{self, Read, Write};
 
-fn put_level<W: Write>(out: &mut W, high: bool) -> io::Result<()> {
-    if high {
-        out.write_all(b" 1")
-    } else {
-        out.write_all(b" 0")
-    }
-}
-
 fn put_answer<W: Write>(out: &mut W, a: Answer) -> io::Result<()> {
-    write!(out, "{} {}", a.code, a.reply)?;
-    put_level(out, a.alert)?;
-    put_level(out, a.therm)?;
-    out.write_all(b"\n")
+    let code = chip::code_number(a.code);
+    writeln!(
+        out,
+        "{code} {} {} {}",
+        a.reply,
+        u8::from(a.alert),
+        u8::from(a.therm)
+    )
 }
 
 // The digit at a place of the line; past its end, 0.
 fn digit(line: &[u8], at: usize) -> u32
     ensures { result ≤ 15 }
 {
-    if at < line.len() {
-        (line[at] % 16) as u32
-    } else {
-        0
-    }
+    line.get(at).map_or(0, |b| u32::from(b % 16))
 }
 
 // The size of the number k of the line, and the number.
@@ -53,15 +45,14 @@ fn number(line: &[u8], k: usize) -> i32
     requires { k ≤ 3 }
 {
     let n = size(line, k) as i32;
-    let at = k * 7 + 2;
-    if at < line.len() {
-        if line[at] == b'-' { 0 - n } else { n }
+    if line.get(k * 7 + 2) == Some(&b'-') {
+        -n
     } else {
         n
     }
 }
 
-// A field changed by hand, to reach what code 6 refuses: no event does.
+// A field changed by hand, to reach what code 6 refuses: no event does. Its number stands in the line, and is read by this match alone.
 fn spoilt(s: State, field: u32, n: u32) -> State {
     let b = (n % 256) as u8;
     let w = (n % 65536) as u16;
@@ -96,7 +87,7 @@ fn event<W: Write>(out: &mut W, s: State, line: &[u8]) -> io::Result<State> {
 
 fn begun<W: Write>(out: &mut W, line: &[u8]) -> io::Result<State> {
     let made = chip::fresh(number(line, 0));
-    write!(out, "fresh {}\n", made.code)?;
+    writeln!(out, "fresh {}", chip::code_number(made.code))?;
     Ok(made.state)
 }
 
@@ -106,14 +97,14 @@ fn spoil<W: Write>(out: &mut W, s: State, line: &[u8]) -> io::Result<State> {
 }
 
 fn titled<W: Write>(out: &mut W, s: State, line: &[u8]) -> io::Result<State> {
-    write!(out, "case {}\n", size(line, 0))?;
+    writeln!(out, "case {}", size(line, 0))?;
     Ok(s)
 }
 
 // One line: an event, a fresh state, a field spoilt, or a new case.
 fn row<W: Write>(out: &mut W, s: State, line: &[u8]) -> io::Result<State> {
-    let what = digit(line, 0);
-    match what {
+    // what the line says to do, read once, by this match
+    match digit(line, 0) {
         0 => event(out, s, line),
         1 => begun(out, line),
         2 => spoil(out, s, line),
@@ -121,15 +112,15 @@ fn row<W: Write>(out: &mut W, s: State, line: &[u8]) -> io::Result<State> {
     }
 }
 
-// Fills a buffer, as far as the reader goes. A read that fails counts as the end.
+// Fills a buffer, as far as the reader goes. A read that fails counts as the end. It stands in `console` too: a function that another crate
+// calls has to leave one answer, and no contract can say which bytes a stream gives.
 fn fill<R: Read>(from: &mut R, to: &mut [u8]) -> usize
     ensures { result ≤ length to.new }
 {
     let mut n = 0;
+    // no index is counted: each round moves by what was read
     while n < to.len() {
-        let Ok(k) = from.read(&mut to[n..]) else {
-            return n;
-        };
+        let k = from.read(&mut to[n..]).unwrap_or(0);
         if k == 0 {
             return n;
         }
@@ -143,13 +134,8 @@ fn main(rt: HostRuntime) -> io::Result<()> {
     let n = fill(&mut rt.stdin(), &mut input);
     let mut out = io::writer(&rt);
     let mut s = chip::fresh(0).state;
-    let mut at = 0;
-    while at < n {
-        s = row(&mut out, s, &input[at..n])?;
-        if n - at < 30 {
-            return Ok(());
-        }
-        at += 30;
+    for line in input[..n].chunks(30) {
+        s = row(&mut out, s, line)?;
     }
     Ok(())
 }

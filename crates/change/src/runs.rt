@@ -4,13 +4,14 @@ ghost use Rattle.rules.specs.Write.{any_fault};
 ghost use Rattle.rules.specs.Runs.{runs_of, needed_of};
 
 use channel::compare::fault;
-use parts::channels::{local, remote};
+use parts::channels::channel_at;
+use rules::register::Channel;
 use rules::state::State;
 
 pub fn any_fault(s: State) -> bool
     ensures { result ≡ any_fault s }
 {
-    fault(local(s)) | fault(remote(s))
+    fault(channel_at(s, Channel::Local)) | fault(channel_at(s, Channel::Remote))
 }
 
 // One more, held at 4, where there was a fault.
@@ -18,7 +19,7 @@ pub fn counted(runs: u8, fault: bool) -> u8
     ensures { result ≡ runs_of runs fault }
 {
     if fault {
-        if runs < 4 { runs + 1 } else { 4 }
+        runs.saturating_add(1).min(4)
     } else {
         0
     }

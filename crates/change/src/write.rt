@@ -1,26 +1,37 @@
 // Document 01, Registers and Comparisons: what a write byte does.
 ghost use Rattle.std.specs.Prelude.{◌≡◌, ◌||◌};
-ghost use Rattle.rules.specs.State.{with_pointer};
+ghost use Rattle.rules.specs.Comparisons.{limits_of, recompared_of};
+ghost use Rattle.rules.specs.State.{channel_at, stored_of, with_pointer};
 ghost use Rattle.rules.specs.Write.{all_recompared, latched_by_faults, standby_compared, compared_if, stopped_if, one_shot, written_to};
 ghost use Rattle.rules.specs.Write as rule;
 
 use crate::runs::any_fault;
 use channel::compare::recompared;
-use parts::channels::{local, remote, with_local, with_remote};
-use parts::limits::{local_limits, remote_limits};
+use parts::channels::{channel_at, with_channel};
+use parts::limits::limits;
 use parts::stored::with_stored;
 use registers::bits::is_standby;
 use registers::command::target;
 use registers::row::{compares, trim};
-use rules::register::{Register, Target};
-use rules::state::State;
+use rules::register::{Channel, Register, Target};
+use rules::state::{ChannelState, State};
+
+fn channel_recompared(s: State, channel: Channel) -> ChannelState
+    ensures { result ≡ recompared_of (limits_of (stored_of s) channel) (channel_at s channel) }
+{
+    recompared(limits(s, channel), channel_at(s, channel))
+}
 
 fn all_recompared(s: State) -> State
     ensures { result ≡ all_recompared s }
 {
-    let l = recompared(local_limits(s), local(s));
-    let r = recompared(remote_limits(s), remote(s));
-    with_remote(with_local(s, l), r)
+    let local = channel_recompared(s, Channel::Local);
+    let remote = channel_recompared(s, Channel::Remote);
+    with_channel(
+        with_channel(s, Channel::Local, local),
+        Channel::Remote,
+        remote,
+    )
 }
 
 // The latch does not wait for the run count.

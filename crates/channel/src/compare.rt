@@ -1,22 +1,16 @@
 // Document 01, Comparisons: high, low, THERM and THERM2 of one channel, with its limits in its own codes.
-ghost use Rattle.std.specs.Prelude.{◌≡◌, ◌-◌};
+ghost use Rattle.std.specs.Prelude.{◌≡◌};
 ghost use Rattle.rules.specs.Comparisons.{comparator_of, verdict_of, compared_of, recompared_of, fault_of};
 
 use rules::state::{ChannelState, Limits, Mark};
 
-// The difference, not under 0.
-fn less(a: u16, b: u16) -> u16
-    ensures { result ≡ a - b }
-{
-    if a < b { 0 } else { a - b }
-}
-
+// The difference of the limit and the hysteresis is not under 0.
 fn comparator(limit: u16, hysteresis: u16, value: u16, was: bool) -> bool
     ensures { result ≡ comparator_of limit hysteresis value was }
 {
     if limit < value {
         true
-    } else if value <= less(limit, hysteresis) {
+    } else if value <= limit.saturating_sub(hysteresis) {
         false
     } else {
         was
@@ -36,11 +30,9 @@ pub fn verdict(mark: Mark, fault: bool) -> Mark
 pub fn compared(l: Limits, c: ChannelState) -> ChannelState
     ensures { result ≡ compared_of l c }
 {
-    let high = c.high;
-    let low = c.low;
     ChannelState {
-        high: verdict(high, l.high < c.value),
-        low: verdict(low, c.value <= l.low),
+        high: verdict(c.high, l.high < c.value),
+        low: verdict(c.low, c.value <= l.low),
         therm: comparator(l.therm, l.hysteresis, c.value, c.therm),
         therm2: comparator(l.high, l.hysteresis, c.value, c.therm2),
         ..c

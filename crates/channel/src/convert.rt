@@ -19,9 +19,8 @@ fn measured(code: u16, c: ChannelState) -> ChannelState
 fn checked(broken: bool, c: ChannelState) -> ChannelState
     ensures { result ≡ diode_of broken c }
 {
-    let before = c.diode;
     ChannelState {
-        diode: verdict(before, broken),
+        diode: verdict(c.diode, broken),
         ..c
     }
 }

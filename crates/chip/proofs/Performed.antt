@@ -2,6 +2,7 @@
 use mathlib.Core.Path.{◌≡◌, refl}
 use mathlib.Core.Bool.{Bool, cond, true, false}
 use lib.Dec.{eqb}
+use Rattle.rules.specs.declared.answer.Code.TheVariants.{Unheard}
 use Rattle.rules.specs.declared.event.Event.{Event}
 use Rattle.rules.specs.declared.event.Event.TheVariants.{Reset, Send, Write, Read, Receive, Respond, Start, End}
 use Rattle.rules.specs.declared.state.State.{State}
@@ -11,7 +12,7 @@ use Rattle.chip.specs.declared.task.Task.TheVariants.{Foreign}
 use Rattle.chip.specs.Task.{perform_of, asked_of}
 
 -- what is done for an address: asked before the work or after it
-by : (s : State) (t : Task) (mine : Bool) → perform_of s (cond mine t Foreign) ≡ cond mine (perform_of s t) (refused 3 s)
+by : (s : State) (t : Task) (mine : Bool) → perform_of s (cond mine t Foreign) ≡ cond mine (perform_of s t) (refused Unheard s)
 by s t true = refl
 by s t false = refl
 

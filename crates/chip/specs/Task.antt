@@ -2,6 +2,7 @@
 -- Assumes nothing.
 use Rattle.std.specs.Prelude.{ℕ, cond, eqb}
 use Rattle.rules.specs.declared.answer.Answer.{Answer}
+use Rattle.rules.specs.declared.answer.Code.TheVariants.{Unheard}
 use Rattle.rules.specs.declared.event.Event.{Event}
 use Rattle.rules.specs.declared.event.Event.TheVariants as event
 use Rattle.rules.specs.declared.state.State.{State}
@@ -36,4 +37,4 @@ perform_of s (Read command) = done (read_at_pointer (with_pointer s command))
 perform_of s Respond = respond_of s
 perform_of s Start = start_of s
 perform_of s (End t) = end_of s t
-perform_of s Foreign = refused 3 s
+perform_of s Foreign = refused Unheard s

@@ -3,11 +3,11 @@ ghost use Rattle.std.specs.Prelude.{◌≡◌};
 ghost use Rattle.rules.specs.Step as rule;
 ghost use Rattle.rules.specs.Step.{answer_of};
 
-use rules::answer::{Answer, Done};
+use rules::answer::{Answer, Code, Done};
 use rules::state::State;
 use show::lines::{pin_line, therm_line};
 
-pub fn answer(code: u8, reply: u8, s: State) -> Answer
+pub fn answer(code: Code, reply: u8, s: State) -> Answer
     ensures { result ≡ answer_of code reply s }
 {
     Answer {
@@ -22,8 +22,7 @@ pub fn answer(code: u8, reply: u8, s: State) -> Answer
 pub fn done(d: Done) -> Answer
     ensures { result ≡ rule.done d }
 {
-    let s = d.state;
-    answer(0, d.reply, s)
+    answer(Code::Done, d.reply, d.state)
 }
 
 pub fn silent(s: State) -> Done
@@ -32,7 +31,7 @@ pub fn silent(s: State) -> Done
     Done { reply: 0, state: s }
 }
 
-pub fn refused(code: u8, s: State) -> Answer
+pub fn refused(code: Code, s: State) -> Answer
     ensures { result ≡ rule.refused code s }
 {
     answer(code, 0, s)

@@ -12,8 +12,8 @@ use change::convert::converted;
 use change::write::{pointed, written};
 use power::power_on;
 use registers::bits::is_standby;
-use rules::answer::Answer;
-use rules::event::{Checked, Event, Samples};
+use rules::answer::{Answer, Code};
+use rules::event::{Event, Samples};
 use rules::state::{Given, State};
 use show::lines::alert_low;
 use show::read::read_at_pointer;
@@ -46,9 +46,9 @@ fn respond(s: State) -> Answer
     ensures { result ≡ respond_of s }
 {
     if alert_low(s) {
-        answer(0, response(s.address), responded(s))
+        answer(Code::Done, response(s.address), responded(s))
     } else {
-        refused(3, s)
+        refused(Code::Unheard, s)
     }
 }
 
@@ -63,7 +63,7 @@ fn start(s: State) -> Answer
     ensures { result ≡ start_of s }
 {
     if is_standby(s.config) | s.busy {
-        refused(4, s)
+        refused(Code::NoStart, s)
     } else {
         done(silent(started(s)))
     }
@@ -76,7 +76,7 @@ fn end(s: State, t: Samples) -> Answer
     if s.busy {
         done(silent(converted(s, t)))
     } else {
-        refused(5, s)
+        refused(Code::NoEnd, s)
     }
 }
 
@@ -92,7 +92,7 @@ fn perform(s: State, t: Task) -> Answer
         Task::Respond => respond(s),
         Task::Start => start(s),
         Task::End(samples) => end(s, samples),
-        Task::Foreign => refused(3, s),
+        Task::Foreign => refused(Code::Unheard, s),
     }
 }
 
@@ -103,11 +103,11 @@ fn apply(s: State, e: Event) -> Answer
     perform(s, asked(s, e))
 }
 
-pub fn checked(s: State, c: Checked) -> Answer
+pub fn checked(s: State, c: Result<Event, Code>) -> Answer
     ensures { result ≡ checked_of s c }
 {
     match c {
-        Checked::Good(e) => apply(s, e),
-        Checked::Bad(code) => refused(code, s),
+        Ok(e) => apply(s, e),
+        Err(code) => refused(code, s),
     }
 }

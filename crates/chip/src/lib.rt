@@ -8,14 +8,16 @@ mod answer;
 mod event;
 mod task;
 
-ghost use Rattle.std.specs.Prelude.{◌≡◌};
+ghost use Rattle.std.specs.Prelude.{◌≡◌, ◌≤◌};
+ghost use Rattle.rules.specs.declared.answer.Code.TheVariants.{IllFormed};
+ghost use Rattle.rules.specs.Codes.{number_of};
 ghost use Rattle.rules.specs.PowerOn.{made_of};
 ghost use Rattle.rules.specs.WellFormed.{well_formed};
 ghost use Rattle.rules.specs.Lines.{alert_low};
 ghost use Rattle.rules.specs.Event.{check_of};
 ghost use Rattle.rules.specs.Step.{checked_of, refused, step_of};
 
-use rules::answer::{Answer, Made};
+use rules::answer::{Answer, Code, Made};
 use rules::event::Numbers;
 use rules::state::State;
 
@@ -47,9 +49,17 @@ pub fn step_well(s: State, e: Numbers) -> Answer
 
 // Code 6, what a state that is not well formed is answered.
 pub fn refuse_state(s: State) -> Answer
-    ensures { result ≡ refused 6 s }
+    ensures { result ≡ refused IllFormed s }
 {
-    answer::refused(6, s)
+    answer::refused(Code::IllFormed, s)
+}
+
+// Document 01's number for a code, as the trace's text and C have it.
+pub fn code_number(code: Code) -> u8
+    ensures value { result ≡ number_of code }
+    ensures upper_bound { result ≤ 6 }
+{
+    code as u8
 }
 
 pub fn is_well_formed(s: State) -> bool

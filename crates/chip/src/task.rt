@@ -1,4 +1,5 @@
-// What an event asks of this chip. The address is asked before any work is done, and reading, which two kinds ask for, is one task.
+// What an event asks of this chip. Without a task, by cases on the event alone, a record of one, five and mixed takes 246, 333 and 490
+// instructions, over the bars of docs/BENCHMARK.md. The address is asked before any work is done, and reading, which two kinds ask for, is one task.
 ghost use Rattle.std.specs.Prelude.{◌≡◌};
 ghost use Rattle.chip.specs.Task.{heard_of, asked_of};
 

@@ -1,10 +1,10 @@
 // A trace's answers, and after them the line that says how it ended.
-ghost use Rattle.std.specs.Prelude.{◌≤◌, ◌≡◌, length};
-ghost use Rattle.console_rules.specs.Console.{Written, count_of, longest};
+ghost use Rattle.std.specs.Prelude.{◌≤◌, length};
+ghost use Rattle.console_rules.specs.Console.{Written, longest};
 
+use replay::end_number;
 use replay::play::play;
 use text::answer::write_end;
-use text_rules::answer::Wrote;
 use text_rules::sizes::{LONGEST_ANSWER, SHORTEST_RECORD};
 
 // The longest trace that is replayed.
@@ -13,27 +13,17 @@ pub const MOST: usize = 24576;
 // The longest text: the longest answer for each shortest record, and 6 for the end.
 pub const LONGEST: usize = LONGEST_ANSWER * (MOST / SHORTEST_RECORD) + 6;
 
-fn count(wrote: Wrote) -> usize
-    ensures { result ≡ count_of wrote }
-{
-    match wrote {
-        Wrote::Bytes(n) => n,
-        Wrote::NoRoom => 0,
-    }
-}
-
+// Into a slice, whose goals speak of its length: an array's have 42675 there, and the laws of the text would need a premise for it.
 fn write_text(trace: &[u8], out: &mut [u8]) -> usize
     requires { longest ≤ length out.old }
     ensures { Written trace.now out.old out.new result }
 {
     if MOST < trace.len() {
-        return count(write_end(out, 2));
+        return write_end(out, 2).unwrap_or(0);
     }
-    let made = chip::fresh(76);
-    let s = made.state;
-    let p = play(s, trace, out);
+    let p = play(chip::fresh(76).state, trace, out);
     let n = p.written;
-    n + count(write_end(&mut out[n..], p.code))
+    n + write_end(&mut out[n..], end_number(p.stop)).unwrap_or(0)
 }
 
 // An array of that length, so that there is always room.

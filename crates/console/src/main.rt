@@ -11,15 +11,15 @@ ghost use Rattle.std.specs.Prelude.{◌≤◌, length};
 use answers::{LONGEST, MOST, answer_trace};
 use std::io::{self, Read, Write};
 
-// Fills a buffer, as far as the reader goes.
+// Fills a buffer, as far as the reader goes. It stands in `cases` too: a function that another crate calls has to leave one answer, and no
+// contract can say which bytes a stream gives.
 fn fill<R: Read>(from: &mut R, to: &mut [u8]) -> usize
     ensures { result ≤ length to.new }
 {
     let mut n = 0;
+    // no index is counted: each round moves by what was read
     while n < to.len() {
-        let Ok(k) = from.read(&mut to[n..]) else {
-            return n;
-        };
+        let k = from.read(&mut to[n..]).unwrap_or(0);
         if k == 0 {
             return n;
         }

@@ -1,20 +1,20 @@
 -- The program's text: its two ways, refused or answered; and, by replay's laws of room, that code 8 is not given and the text
 -- always fits. Assumes nothing.
+use Rattle.std.specs.Prelude.{Option}
 use Prim.Native.Nat.{ℕ, ◌+◌, ◌≤◌, ◌<◌}
 use native.Mathlib.Omega.{arith}
 use mathlib.Core.Path.{◌≡◌, refl, sym, ap, ◌∙◌}
 use mathlib.Core.Bool.{Bool, true, false}
 use mathlib.Core.List.{List, ◌++◌}
 use lib.Dec.{ltb}
-use lib.ListN.{length, drop, length-append}
+use lib.ListN.{length, length-append}
 use borrow.Author.Tests.{lt-ltb, le-ltb, ltb-true, ltb-false}
 use Rattle.text_rules.specs.Answer.{Front, Put}
 use Rattle.text_rules.specs.Names.{end_name}
-use Rattle.text_rules.specs.declared.answer.Wrote.{Wrote}
 use Rattle.text_rules.proofs.Put.{front_room, front_then, put_fits}
 use Rattle.text_rules.proofs.Size.{decimal_one, line_length}
 use Rattle.replay_rules.specs.declared.play.Played.{Played}
-use Rattle.replay_rules.specs.Play.{Ran, run_of}
+use Rattle.replay_rules.specs.Play.{Ran, end_code, run_of}
 use Rattle.replay_rules.specs.Replay.{replay_from}
 use Rattle.replay_rules.specs.Room.{room_of}
 use Rattle.replay_rules.proofs.Plays.{back, from}
@@ -33,7 +33,7 @@ whole : (trace : List ℕ) → length trace ≤ most → console_text trace ≡ 
 unfolding console_text
 whole trace h = rw (le-ltb most (length trace) h)
 
-pub refused : {trace before after : List ℕ} {w : Wrote} → longest ≤ length before → most < length trace → Put (end_line 2) before after w → Written trace before after (count_of w)
+pub refused : {trace before after : List ℕ} {w : Option ℕ} → longest ≤ length before → most < length trace → Put (end_line 2) before after w → Written trace before after (count_of w)
 refused {trace} {before} {after} {w} room h p =
     let f = put_fits p (omega (arith, end_length 2 (omega arith))) in
     let e = too_long trace h in
@@ -43,25 +43,25 @@ module _ {trace before x : List ℕ} {p : Played} (room : longest ≤ length bef
   enough : room_of (length trace) ≤ length before
   enough = omega arith
 
-  small : p.code < 8
+  small : end_code p.stop < 8
   small = rw ran.code (run_code start trace (length before) enough)
 
   fits : length (run_of start trace (length before)).text + 6 ≤ length before
   fits = omega (arith, answers_fit start trace (length before) enough)
 
-  pub front : Front (run_of start trace (length before)).text before x p.written
+  front : Front (run_of start trace (length before)).text before x p.written
   front = record { room = omega (arith, fits); count = ran.written; bytes = ran.bytes }
 
   same : run_on trace ≡ run_of start trace (length before)
   unfolding run_on
   same = sym (same_run start trace (length before) enough)
 
-  pub answered_to : {ys : List ℕ} {w : Wrote} → Put (end_line p.code) (from p.written x) ys w → Written trace before (back p.written x ys) (p.written + count_of w)
+  pub answered_to : {ys : List ℕ} {w : Option ℕ} → Put (end_line (end_code p.stop)) (from p.written x) ys w → Written trace before (back p.written x ys) (p.written + count_of w)
   answered_to {ys} {w} put =
-      let k = end_length p.code (omega (arith, small)) in
+      let k = end_length (end_code p.stop) (omega (arith, small)) in
       let f = put_fits put (front_room front (omega (arith, fits, ran.written, k))) in
       let all = front_then front f.1 in
-      let e : console_text trace ≡ (run_of start trace (length before)).text ++ end_line p.code = whole trace short ∙ rw (same, ran.code) in
+      let e : console_text trace ≡ (run_of start trace (length before)).text ++ end_line (end_code p.stop) = whole trace short ∙ rw (same, ran.code) in
       record { count = rw (e, f.0) all.count; bytes = rw e all.bytes }
 
 pub does_the_same : DoesTheSame
@@ -86,8 +86,3 @@ text_fits trace = by (ltb most (length trace)) refl
     by : (t : Bool) → ltb most (length trace) ≡ t → length (console_text trace) ≤ longest
     by true e = rw (too_long trace (ltb-true most (length trace) e), end_length 2 (omega arith)) (omega arith)
     by false e = let h : length trace ≤ most = ltb-false most (length trace) e in rw (whole trace h) (answers_room trace h)
-
--- what stands in the output lies within it
-pub inside : {trace before after : List ℕ} {r : ℕ} → Written trace before after r → r ≤ length after
-inside {trace} {before} w =
-    omega (arith, w.count, ap length w.bytes, length-append (console_text trace) (drop (length (console_text trace)) before))

@@ -1,13 +1,12 @@
 -- Document 01, Traces and their replay: "A small program does the same from standard input". Everything that it writes, as one
 -- text of the trace. Assumes nothing.
-use Rattle.std.specs.Prelude.{ℕ, ◌+◌, ◌≤◌, ◌≡◌, cond, false, List, ◌++◌, ltb, length}
+use Rattle.rules.specs.Codes.{number_of}
+use Rattle.std.specs.Prelude.{ℕ, ◌+◌, ◌≤◌, ◌≡◌, cond, false, List, ◌++◌, ltb, length, Option, unwrap_or}
 use Rattle.std.proofs.Math.IntN.ℤ.{pos}
 use Rattle.rules.specs.declared.state.State.{State}
 use Rattle.rules.specs.PowerOn.{made_of}
 use Rattle.text_rules.specs.Names.{end_name}
 use Rattle.text_rules.specs.Answer.{line_text, put}
-use Rattle.text_rules.specs.declared.answer.Wrote.{Wrote}
-use Rattle.text_rules.specs.declared.answer.Wrote.TheVariants.{Bytes, NoRoom}
 use Rattle.replay_rules.specs.Play.{Run, run_of}
 use Rattle.replay_rules.specs.Replay.{played, refused_at_once, replay_of}
 use Rattle.replay_rules.specs.Room.{room_of}
@@ -42,14 +41,13 @@ pub record Written (trace before after : List ℕ) (r : ℕ) : Type 0 where
   pub bytes : after ≡ put (console_text trace) before
 
 -- the bytes that a writer wrote
-abbrev pub count_of : Wrote → ℕ
-count_of (Bytes n) = n
-count_of NoRoom = 0
+abbrev pub count_of : Option ℕ → ℕ
+count_of wrote = unwrap_or wrote 0
 
 -- "does the same": what replay answers and writes for address 76, wherever it takes the buffers and has the room
 abbrev pub DoesTheSame : Type 0
 DoesTheSame =
-    (trace output report : List ℕ) → refused_at_once (made_of (pos 76)) trace output report ≡ false → room_of (length trace) ≤ length output
+    (trace output report : List ℕ) → refused_at_once (number_of (made_of (pos 76)).code) trace output report ≡ false → room_of (length trace) ≤ length output
     → replay_of (pos 76) trace output report ≡ played (run_on trace) output
 
 -- "code 8 is never given"

@@ -4,37 +4,27 @@
 
 mod portions;
 
-ghost use Rattle.std.specs.Prelude.{◌≡◌, replicate};
+ghost use Rattle.std.specs.Prelude.{◌≡◌};
 ghost use Rattle.replay_rules.specs.Replay.{Replayed, replay_of};
 ghost use Rattle.saved_rules.specs.Layout.{saved_over};
 ghost use Rattle.saved_rules.specs.Face.{EventDone, PoweredOn, answer_bytes, answer_over, event_of, power_on_of, powered_from};
 
-use chip::fresh;
+use blocks::put;
+use chip::{code_number, fresh};
 use replay::play::event;
-use rules::answer::Made;
+use rules::answer::{Code, Made};
 use rules::event::Numbers;
 use saved::load::load;
 use saved::save::{bit, holds, save};
 
-// Zeros, which are no saved state.
-fn clear(out: &mut [u8])
-    ensures { out.new ≡ saved_over (replicate 128 0) out.old }
-{
-    if out.len() != 128 {
-        return;
-    }
-    let zeros = [0u8; 128];
-    out.copy_from_slice(&zeros);
-}
-
+// Zeros, which are no saved state, where no chip was made. A session is placed by the same few lines, over its own type and bytes.
 fn place(made: Made, out: &mut [u8])
     ensures { out.new ≡ saved_over (powered_from made).chip out.old }
 {
-    if made.code == 0 {
-        let s = made.state;
-        save(s, out);
+    if made.code == Code::Done {
+        save(made.state, out);
     } else {
-        clear(out);
+        put(&[0; 128], out);
     }
 }
 
@@ -47,17 +37,15 @@ pub extern "C" fn dlaveth_power_on(address: i32, chip: &mut [u8]) -> i32
     }
     let made = fresh(address);
     place(made, chip);
-    made.code as i32
+    i32::from(code_number(made.code))
 }
 
+// The eight bytes that C is told, numbers all of them.
 fn put_answer(out: &mut [u8], code: u8, reply: u8, alert: bool, therm: bool)
     ensures { out.new ≡ answer_over (answer_bytes code reply alert therm) out.old }
 {
-    if out.len() != 8 {
-        return;
-    }
     let all = [code, reply, bit(alert), bit(therm), 0, 0, 0, 0];
-    out.copy_from_slice(&all);
+    put(&all, out);
 }
 
 // Bytes that are no saved state are code 6 and are left as they are.
@@ -81,10 +69,10 @@ pub extern "C" fn dlaveth_event(
         return 6;
     }
     let done = event(s, Numbers { kind, a, b, c });
-    let after = done.state;
-    save(after, chip);
-    put_answer(answer, done.code, done.reply, done.alert, done.therm);
-    done.code as i32
+    save(done.state, chip);
+    let code = code_number(done.code);
+    put_answer(answer, code, done.reply, done.alert, done.therm);
+    i32::from(code)
 }
 
 // A whole trace: crates/replay has what it does.
@@ -92,5 +80,6 @@ pub extern "C" fn dlaveth_event(
 pub extern "C" fn replay(address: i32, trace: &[u8], output: &mut [u8], report: &mut [u8]) -> i32
     ensures { Replayed (replay_of address trace.now output.old report.old) result output.new report.new }
 {
-    replay::replay_made(fresh(address), trace, output, report)
+    let made = fresh(address);
+    replay::replay_made(code_number(made.code), made.state, trace, output, report)
 }

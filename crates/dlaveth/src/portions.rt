@@ -1,34 +1,27 @@
 // A trace as it arrives: a session is 256 bytes that the caller lends.
-ghost use Rattle.std.specs.Prelude.{◌≡◌, ◌++◌, replicate};
-ghost use Rattle.replay_rules.specs.Replay.{word};
+ghost use Rattle.std.specs.Prelude.{◌≡◌, ◌++◌};
+ghost use Rattle.blocks.specs.Blocks.{word};
 ghost use Rattle.session_rules.specs.Bytes.{bytes_over};
+ghost use Rattle.session_rules.specs.Portion.{fed_code};
 ghost use Rattle.session_rules.specs.Face.{FeedDone, OpenDone, feed_into, is_end, is_flag, open_of, opening_from, progress_over};
 
+use blocks::{joined, put, word};
+use chip::code_number;
 use replay::report::write_report;
+use rules::answer::Code;
 use session::held::{holds_session, load_session, save_session};
 use session::portion::{feed, refused_with};
 use session::session::open;
-use session_rules::session::Opened;
+use session_rules::session::{Opened, Stop};
 
-// Zeros, which are no session.
-fn clear_session(out: &mut [u8])
-    ensures { out.new ≡ bytes_over (replicate 256 0) out.old }
-{
-    if out.len() != 256 {
-        return;
-    }
-    let zeros = [0u8; 256];
-    out.copy_from_slice(&zeros);
-}
-
+// Zeros, which are no session, where none was opened.
 fn place_session(opened: Opened, out: &mut [u8])
     ensures { out.new ≡ bytes_over (opening_from opened).session out.old }
 {
-    if opened.code == 0 {
-        let s = opened.session;
-        save_session(s, out);
+    if opened.code == Code::Done {
+        save_session(opened.session, out);
     } else {
-        clear_session(out);
+        put(&[0; 256], out);
     }
 }
 
@@ -41,7 +34,7 @@ pub extern "C" fn dlaveth_open(address: i32, session: &mut [u8]) -> i32
     }
     let opened = open(address);
     place_session(opened, session);
-    opened.code as i32
+    i32::from(code_number(opened.code))
 }
 
 fn is_end(end: i32) -> bool
@@ -56,24 +49,22 @@ fn is_flag(end: i32) -> bool
     (end == 0) | (end == 1)
 }
 
+// A portion's code, as its report and C have it. A replay has its own, over its own type of what stops it.
+fn number(stop: Option<Stop>) -> u8
+    ensures { result ≡ fed_code stop }
+{
+    match stop {
+        Some(stop) => stop as u8,
+        None => 0,
+    }
+}
+
 // Two numbers of four bytes each, low byte first, into 8; any other length is left as it is.
 fn write_progress(progress: &mut [u8], taken: usize, written: usize)
     ensures { progress.new ≡ progress_over (word taken ++ word written) progress.old }
 {
-    if progress.len() != 8 {
-        return;
-    }
-    let all = [
-        (taken % 256) as u8,
-        (taken / 256 % 256) as u8,
-        (taken / 65536 % 256) as u8,
-        (taken / 16777216 % 256) as u8,
-        (written % 256) as u8,
-        (written / 256 % 256) as u8,
-        (written / 65536 % 256) as u8,
-        (written / 16777216 % 256) as u8,
-    ];
-    progress.copy_from_slice(&all);
+    let all: [u8; 8] = joined(&word(taken), &word(written));
+    put(&all, progress);
 }
 
 // A refusal writes nothing in any buffer.
@@ -95,14 +86,14 @@ pub extern "C" fn dlaveth_feed(
     if !holds_session(s, session) {
         return 6;
     }
-    let code = refused_with(s, portion.len());
-    if code != 0 {
-        return code as i32;
+    if let Some(stop) = refused_with(s, portion.len()) {
+        return i32::from(number(Some(stop)));
     }
     let f = feed(s, portion, is_end(end), output);
     let after = f.session;
+    let code = number(f.stop);
     save_session(after, session);
-    write_report(report, f.code, after.records, after.used, after.written);
+    write_report(report, code, after.records, after.used, after.written);
     write_progress(progress, f.taken, f.written);
-    f.code as i32
+    i32::from(code)
 }

@@ -1,88 +1,85 @@
-// A channel is taken out of a state as a value, and put back field by field.
+// A channel is taken out of a state as a value, and put back field by field. Where the channel is known at a call, so are the fields: the
+// compiler lays the function in.
 ghost use Rattle.std.specs.Prelude.{◌≡◌};
-ghost use Rattle.rules.specs.State.{channel_at, with_channel};
+ghost use Rattle.rules.specs.State as rule;
 
 use rules::register::Channel;
 use rules::state::{ChannelState, Mark, State};
 
-pub fn local(s: State) -> ChannelState
-    ensures { result ≡ channel_at s Channel.Local }
+#[inline(always)]
+pub fn channel_at(s: State, channel: Channel) -> ChannelState
+    ensures { result ≡ rule.channel_at s channel }
 {
-    ChannelState {
-        value: s.localvalue,
-        converted: s.localconverted,
-        high: Mark {
-            found: s.localhighfound,
-            flag: s.localhighflag,
+    match channel {
+        Channel::Local => ChannelState {
+            value: s.localvalue,
+            converted: s.localconverted,
+            high: Mark {
+                found: s.localhighfound,
+                flag: s.localhighflag,
+            },
+            low: Mark {
+                found: s.locallowfound,
+                flag: s.locallowflag,
+            },
+            diode: Mark {
+                found: s.localdiodefound,
+                flag: s.localdiodeflag,
+            },
+            therm: s.localthermflag,
+            therm2: s.localtherm2mark,
         },
-        low: Mark {
-            found: s.locallowfound,
-            flag: s.locallowflag,
+        Channel::Remote => ChannelState {
+            value: s.remotevalue,
+            converted: s.remoteconverted,
+            high: Mark {
+                found: s.remotehighfound,
+                flag: s.remotehighflag,
+            },
+            low: Mark {
+                found: s.remotelowfound,
+                flag: s.remotelowflag,
+            },
+            diode: Mark {
+                found: s.remotediodefound,
+                flag: s.remotediodeflag,
+            },
+            therm: s.remotethermflag,
+            therm2: s.remotetherm2mark,
         },
-        diode: Mark {
-            found: s.localdiodefound,
-            flag: s.localdiodeflag,
-        },
-        therm: s.localthermflag,
-        therm2: s.localtherm2mark,
     }
 }
 
-pub fn remote(s: State) -> ChannelState
-    ensures { result ≡ channel_at s Channel.Remote }
+#[inline(always)]
+pub fn with_channel(s: State, channel: Channel, c: ChannelState) -> State
+    ensures { result ≡ rule.with_channel s channel c }
 {
-    ChannelState {
-        value: s.remotevalue,
-        converted: s.remoteconverted,
-        high: Mark {
-            found: s.remotehighfound,
-            flag: s.remotehighflag,
+    match channel {
+        Channel::Local => State {
+            localvalue: c.value,
+            localconverted: c.converted,
+            localhighfound: c.high.found,
+            localhighflag: c.high.flag,
+            locallowfound: c.low.found,
+            locallowflag: c.low.flag,
+            localdiodefound: c.diode.found,
+            localdiodeflag: c.diode.flag,
+            localthermflag: c.therm,
+            localtherm2mark: c.therm2,
+            ..s
         },
-        low: Mark {
-            found: s.remotelowfound,
-            flag: s.remotelowflag,
+        Channel::Remote => State {
+            remotevalue: c.value,
+            remoteconverted: c.converted,
+            remotehighfound: c.high.found,
+            remotehighflag: c.high.flag,
+            remotelowfound: c.low.found,
+            remotelowflag: c.low.flag,
+            remotediodefound: c.diode.found,
+            remotediodeflag: c.diode.flag,
+            remotethermflag: c.therm,
+            remotetherm2mark: c.therm2,
+            ..s
         },
-        diode: Mark {
-            found: s.remotediodefound,
-            flag: s.remotediodeflag,
-        },
-        therm: s.remotethermflag,
-        therm2: s.remotetherm2mark,
-    }
-}
-
-pub fn with_local(s: State, c: ChannelState) -> State
-    ensures { result ≡ with_channel s Channel.Local c }
-{
-    State {
-        localvalue: c.value,
-        localconverted: c.converted,
-        localhighfound: c.high.found,
-        localhighflag: c.high.flag,
-        locallowfound: c.low.found,
-        locallowflag: c.low.flag,
-        localdiodefound: c.diode.found,
-        localdiodeflag: c.diode.flag,
-        localthermflag: c.therm,
-        localtherm2mark: c.therm2,
-        ..s
-    }
-}
-
-pub fn with_remote(s: State, c: ChannelState) -> State
-    ensures { result ≡ with_channel s Channel.Remote c }
-{
-    State {
-        remotevalue: c.value,
-        remoteconverted: c.converted,
-        remotehighfound: c.high.found,
-        remotehighflag: c.high.flag,
-        remotelowfound: c.low.found,
-        remotelowflag: c.low.flag,
-        remotediodefound: c.diode.found,
-        remotediodeflag: c.diode.flag,
-        remotethermflag: c.therm,
-        remotetherm2mark: c.therm2,
-        ..s
     }
 }

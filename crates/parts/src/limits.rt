@@ -13,24 +13,22 @@ fn quarters(high: u8, fine: u8) -> u16
     (high as u16) * 4 + (fine as u16) / 64
 }
 
-pub fn local_limits(s: State) -> Limits
-    ensures { result ≡ limits_of (stored_of s) Channel.Local }
+#[inline(always)]
+pub fn limits(s: State, channel: Channel) -> Limits
+    ensures { result ≡ limits_of (stored_of s) channel }
 {
-    Limits {
-        high: s.localhigh as u16,
-        low: s.locallow as u16,
-        therm: s.localtherm as u16,
-        hysteresis: s.hysteresis as u16,
-    }
-}
-
-pub fn remote_limits(s: State) -> Limits
-    ensures { result ≡ limits_of (stored_of s) Channel.Remote }
-{
-    Limits {
-        high: quarters(s.remotehigh, s.remotehighfine),
-        low: quarters(s.remotelow, s.remotelowfine),
-        therm: quarters(s.remotetherm, 0),
-        hysteresis: 4 * (s.hysteresis as u16),
+    match channel {
+        Channel::Local => Limits {
+            high: s.localhigh as u16,
+            low: s.locallow as u16,
+            therm: s.localtherm as u16,
+            hysteresis: s.hysteresis as u16,
+        },
+        Channel::Remote => Limits {
+            high: quarters(s.remotehigh, s.remotehighfine),
+            low: quarters(s.remotelow, s.remotelowfine),
+            therm: quarters(s.remotetherm, 0),
+            hysteresis: 4 * (s.hysteresis as u16),
+        },
     }
 }

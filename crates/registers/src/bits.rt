@@ -1,4 +1,4 @@
-// The configuration's four bits.
+// The configuration's four bits, each a name for its place: one function of a place would leave the places to the callers.
 ghost use Rattle.std.specs.Prelude.{◌≡◌};
 ghost use Rattle.rules.specs.Configuration.{masked, standby, chooses_therm2, extended};
 

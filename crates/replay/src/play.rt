@@ -1,33 +1,35 @@
 // Records read, stepped and answered one after the other.
-ghost use Rattle.std.specs.Prelude.{ℕ, ◌≤◌, ◌≡◌, true, false, cond, List, length, drop};
+ghost use Rattle.std.specs.Prelude.{ℕ, ◌≤◌, ◌≡◌, true, List, Some, None, Err, length, drop};
+ghost use Rattle.rules.specs.declared.event.Numbers.{Numbers};
 ghost use Rattle.rules.specs.WellFormed.{well_formed};
 ghost use Rattle.rules.specs.Step.{step_of};
-ghost use Rattle.text_rules.specs.declared.record.Parsed.TheVariants.{Whole};
-ghost use Rattle.text_rules.specs.Record.{record_of};
-ghost use Rattle.replay_rules.specs.declared.play.Turn.TheVariants.{Stopped};
-ghost use Rattle.replay_rules.specs.Play.{Mid, Ran, Turned, numbers_of};
+ghost use Rattle.replay_rules.specs.declared.play.Stop.TheVariants.{Record as NoRecord};
+ghost use Rattle.replay_rules.specs.Play.{Mid, Ran, Turned, next_of, numbers_of, shown_of};
 
-use replay_rules::play::{Played, Turn};
-use rules::answer::Answer;
+use chip::code_number;
+use replay_rules::play::{Played, Stop, Went};
+use rules::answer::{Answer, Code};
 use rules::event::Numbers;
 use rules::state::State;
 use text::answer::{LONGEST, write_answer, write_quickly};
 use text::quick::read_quickly;
 use text::record::read_record;
-use text_rules::answer::Wrote;
-use text_rules::record::{Parsed, Record};
+use text_rules::answer::Shown;
+use text_rules::record::{Record, Unread};
 
-// How far a drive came, where code 7 says that no record stands there; or what its one event was answered.
+// How far a drive came, and whether no record stands there; or what its one event was answered. One type for both: two would be two ways out
+// of the one loop in which a chip steps (docs/BENCHMARK.md).
 #[derive(Clone, Copy)]
 struct Driven {
-    code: u8,
+    unread: bool,
     records: usize,
     used: usize,
     written: usize,
     answer: Answer,
 }
 
-// The same state, each flag read as a flag: what comes from memory could be any byte to the compiler, which would ask at every event.
+// The same state, each flag read as a flag: what comes from memory could be any byte to the compiler, which would ask at every event
+// (docs/BENCHMARK.md).
 fn settled(s: State) -> State
     ensures { result ≡ s }
 {
@@ -42,7 +44,7 @@ fn holding(s: State) -> Answer
     ensures { result.state ≡ s }
 {
     Answer {
-        code: 0,
+        code: Code::Done,
         reply: 0,
         alert: true,
         therm: true,
@@ -50,6 +52,7 @@ fn holding(s: State) -> Answer
     }
 }
 
+// The text knows no chip, so it has a record of its own and shows numbers. A From would have to stand in a crate that declares neither type.
 fn numbers_of(r: Record) -> Numbers
     ensures { result ≡ numbers_of r }
 {
@@ -61,12 +64,23 @@ fn numbers_of(r: Record) -> Numbers
     }
 }
 
-// The event that is handed over, as a record of no bytes; or the record at the front of the rest.
-fn next_record(alone: bool, e: Numbers, rest: &[u8]) -> Parsed
-    ensures { result ≡ cond alone (Whole (record { kind = e.kind; a = e.a; b = e.b; c = e.c }) 0) (record_of rest.now) }
+fn shown(a: Answer) -> Shown
+    ensures { result ≡ shown_of a }
 {
-    if alone {
-        return Parsed::Whole(
+    Shown {
+        code: code_number(a.code),
+        reply: a.reply,
+        alert: a.alert,
+        therm: a.therm,
+    }
+}
+
+// The event that is handed over, as a record of no bytes; or the record at the front of the rest.
+fn next_record(only: Option<Numbers>, rest: &[u8]) -> Result<(Record, usize), Unread>
+    ensures { result ≡ next_of only rest.now }
+{
+    match only {
+        Some(e) => Ok((
             Record {
                 kind: e.kind,
                 a: e.a,
@@ -74,29 +88,30 @@ fn next_record(alone: bool, e: Numbers, rest: &[u8]) -> Parsed
                 c: e.c,
             },
             0,
-        );
+        )),
+        None => read_quickly(rest),
     }
-    read_quickly(rest)
 }
 
 // Every event that a call from C gives a well-formed chip goes through this one function. So in C's library the step has one caller, and the
 // compiler lays it into the loop. Records are answered while there is room for the longest answer: no state from before the step has to be
-// kept. With `alone` the event that is handed over is answered, and nothing else.
-fn drive(s: State, alone: bool, e: Numbers, trace: &[u8], out: &mut [u8]) -> Driven
+// kept. Where an event is handed over it is answered, and nothing else.
+fn drive(s: State, only: Option<Numbers>, trace: &[u8], out: &mut [u8]) -> Driven
     requires s_value { well_formed s ≡ true }
-    requires in_bounds { alone ≡ true → 35 ≤ length out.old }
-    ensures mid { alone ≡ false → Mid s trace.now out.old out.new result.answer.state result.records result.used result.written }
-    ensures turned { alone ≡ false → result.code ≡ 7 → (before : List ℕ) → Turned result.answer.state (drop result.used trace.now) before before (Stopped 7) }
-    ensures answer_value { alone ≡ true → result.answer ≡ step_of s e }
+    requires in_bounds { (e : Numbers) → only ≡ Some e → 35 ≤ length out.old }
+    ensures mid { only ≡ None → Mid s trace.now out.old out.new result.answer.state result.records result.used result.written }
+    ensures turned { only ≡ None → result.unread ≡ true → (before : List ℕ) → Turned result.answer.state (drop result.used trace.now) before before (Err NoRecord) }
+    ensures answer_value { (e : Numbers) → only ≡ Some e → result.answer ≡ step_of s e }
 {
     let mut state = settled(s);
     let mut records: usize = 0;
     let mut used: usize = 0;
     let mut written: usize = 0;
+    // no index is counted, here and in `play`: each round moves by the bytes that its record used and its answer took
     while LONGEST <= out.len() - written {
-        let Parsed::Whole(r, n) = next_record(alone, e, &trace[used..]) else {
+        let Ok((r, n)) = next_record(only, &trace[used..]) else {
             return Driven {
-                code: 7,
+                unread: true,
                 records,
                 used,
                 written,
@@ -106,17 +121,16 @@ fn drive(s: State, alone: bool, e: Numbers, trace: &[u8], out: &mut [u8]) -> Dri
         let a = chip::step_well(state, numbers_of(r));
         if n == 0 {
             return Driven {
-                code: 8,
+                unread: false,
                 records,
                 used,
                 written,
                 answer: a,
             };
         }
-        let wrote = write_quickly(&mut out[written..], a.code, a.reply, a.alert, a.therm);
-        let Wrote::Bytes(k) = wrote else {
+        let Some(k) = write_quickly(&mut out[written..], shown(a)) else {
             return Driven {
-                code: 8,
+                unread: false,
                 records,
                 used,
                 written,
@@ -129,7 +143,7 @@ fn drive(s: State, alone: bool, e: Numbers, trace: &[u8], out: &mut [u8]) -> Dri
         written += k;
     }
     Driven {
-        code: 8,
+        unread: false,
         records,
         used,
         written,
@@ -142,49 +156,40 @@ pub fn event(s: State, e: Numbers) -> Answer
     ensures { result ≡ step_of s e }
 {
     if chip::is_well_formed(s) {
-        let none = [0u8; 1];
         let mut room = [0u8; LONGEST];
-        let d = drive(s, true, e, &none[1..], &mut room);
-        let a = d.answer;
-        return a;
+        return drive(s, Some(e), &[], &mut room).answer;
     }
     chip::refuse_state(s)
 }
 
 // One record: read, stepped, and answered at the front of what is lent.
-pub fn take_turn(s: State, rest: &[u8], out: &mut [u8]) -> Turn
+pub fn take_turn(s: State, rest: &[u8], out: &mut [u8]) -> Result<Went, Stop>
     ensures { Turned s rest.now out.old out.new result }
 {
-    let Parsed::Whole(r, n) = read_record(rest) else {
-        return Turn::Stopped(7);
+    let Ok((r, used)) = read_record(rest) else {
+        return Err(Stop::Record);
     };
     let a = event(s, numbers_of(r));
-    let wrote = write_answer(out, a.code, a.reply, a.alert, a.therm);
-    match wrote {
-        Wrote::Bytes(k) => {
-            let t = a.state;
-            Turn::Went(t, n, k)
-        }
-        Wrote::NoRoom => Turn::Stopped(8),
-    }
+    let Some(written) = write_answer(out, shown(a)) else {
+        return Err(Stop::Room);
+    };
+    Ok(Went {
+        state: a.state,
+        used,
+        written,
+    })
 }
 
 // As far as a drive comes; a state that is not well formed is not driven.
 fn begin(s: State, trace: &[u8], out: &mut [u8]) -> Driven
     ensures mid { Mid s trace.now out.old out.new result.answer.state result.records result.used result.written }
-    ensures turned { result.code ≡ 7 → (before : List ℕ) → Turned result.answer.state (drop result.used trace.now) before before (Stopped 7) }
+    ensures turned { result.unread ≡ true → (before : List ℕ) → Turned result.answer.state (drop result.used trace.now) before before (Err NoRecord) }
 {
     if chip::is_well_formed(s) {
-        let none = Numbers {
-            kind: 0,
-            a: 0,
-            b: 0,
-            c: 0,
-        };
-        return drive(s, false, none, trace, out);
+        return drive(s, None, trace, out);
     }
     Driven {
-        code: 8,
+        unread: false,
         records: 0,
         used: 0,
         written: 0,
@@ -197,54 +202,37 @@ pub fn play(s: State, trace: &[u8], out: &mut [u8]) -> Played
     ensures { Ran s trace.now out.old out.new result }
 {
     let d = begin(s, trace, out);
-    let a = d.answer;
-    let t = a.state;
-    if d.used == trace.len() {
+    let mut p = Played {
+        stop: None,
+        records: d.records,
+        used: d.used,
+        written: d.written,
+        state: d.answer.state,
+    };
+    if p.used == trace.len() {
+        return p;
+    }
+    if d.unread {
         return Played {
-            code: 0,
-            records: d.records,
-            used: d.used,
-            written: d.written,
-            state: t,
+            stop: Some(Stop::Record),
+            ..p
         };
     }
-    if d.code == 7 {
-        return Played {
-            code: 7,
-            records: d.records,
-            used: d.used,
-            written: d.written,
-            state: t,
-        };
-    }
-    let mut state = t;
-    let mut records: usize = d.records;
-    let mut used: usize = d.used;
-    let mut written: usize = d.written;
-    while used < trace.len() {
-        match take_turn(state, &trace[used..], &mut out[written..]) {
-            Turn::Went(after, n, k) => {
-                state = after;
-                records += 1;
-                used += n;
-                written += k;
+    while p.used < trace.len() {
+        match take_turn(p.state, &trace[p.used..], &mut out[p.written..]) {
+            Ok(went) => {
+                p.state = went.state;
+                p.records += 1;
+                p.used += went.used;
+                p.written += went.written;
             }
-            Turn::Stopped(code) => {
+            Err(stop) => {
                 return Played {
-                    code,
-                    records,
-                    used,
-                    written,
-                    state,
+                    stop: Some(stop),
+                    ..p
                 };
             }
         }
     }
-    Played {
-        code: 0,
-        records,
-        used,
-        written,
-        state,
-    }
+    p
 }

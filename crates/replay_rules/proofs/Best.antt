@@ -1,4 +1,5 @@
 -- No lower rate would do: what a trace of known records takes, record by record, and that any lower rate falls behind it. Assumes nothing.
+use Rattle.std.specs.Prelude.{Ok}
 use Prim.Native.Nat.{ℕ, zero, suc, ◌+◌, ◌*◌, ◌-◌, ◌/◌, ◌≤◌, ◌<◌}
 use native.Mathlib.Nat.{lt_of_mul-lt-mul_left, mul-add, mul_assoc, mul_comm, mul-div-le, mul-le-mul_left, mul_left_comm}
 use native.Mathlib.Omega.{arith}
@@ -13,7 +14,6 @@ use borrow.Author.Tests.{le-leb, leb-false, leb-true, lt-leb, ne_eqb}
 use Rattle.rules.specs.declared.state.State.{State}
 use Rattle.rules.specs.PowerOn.{made_of}
 use Rattle.text_rules.specs.declared.record.Record.{Record}
-use Rattle.text_rules.specs.declared.record.Parsed.TheVariants.{Whole}
 use Rattle.text_rules.specs.Record.{record_of}
 use Rattle.text_rules.specs.Sizes.{longest_answer, shortest_answer, shortest_record}
 use Rattle.text_rules.proofs.More.{whole_stays}
@@ -28,7 +28,7 @@ use Rattle.replay_rules.proofs.Plays.{at_end}
 -- a text that is one record, which a state answers with so many bytes and goes on as another
 record Known (s : State) (one : List ℕ) (k : ℕ) (t : State) : Type 0 where
   numbers : Record
-  read : record_of one ≡ Whole numbers (length one)
+  read : record_of one ≡ Ok (numbers, length one)
   some : 0 < length one
   state : (answer_to s numbers).state ≡ t
   text : length (text_of (answer_to s numbers)) ≡ k

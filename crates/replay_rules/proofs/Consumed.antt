@@ -1,4 +1,6 @@
 -- A replay is its events sent one after the other, and from power-on none is answered with code 6. Assumes nothing.
+use Rattle.std.specs.Prelude.{Ok}
+use Rattle.rules.specs.Codes.{number_of}
 use Prim.Native.Nat.{ℕ, zero, suc, ◌+◌, ◌-◌, ◌<◌, ◌≤◌}
 use native.Mathlib.Omega.{arith}
 use mathlib.Core.Path.{◌≡◌, refl, sym, ◌∙◌}
@@ -16,10 +18,9 @@ use Rattle.rules.proofs.Alarm.{after_one}
 use Rattle.rules.proofs.Answers.{well_has}
 use Rattle.rules.proofs.WellFormed.{fresh_well_formed, steps_well_formed}
 use Rattle.text_rules.specs.declared.record.Record.{Record}
-use Rattle.text_rules.specs.declared.record.Parsed.TheVariants.{Whole}
 use Rattle.text_rules.specs.Record.{record_of}
 use Rattle.text_rules.proofs.Records.{record_fits}
-use Rattle.replay_rules.specs.declared.play.Turn.{Turn}
+use Rattle.replay_rules.specs.Play.{Turn}
 use Rattle.replay_rules.specs.Play.{Run, answer_to, begun, ended, numbers_of, on_turn, run_from, run_of, text_of, went}
 use Rattle.replay_rules.specs.Consumed.{AllUsed, ReplayNeverSix, ReplayTold, answers_from, consumed_from, consumed_of, events_of, sixes, texts_of}
 use Rattle.replay_rules.proofs.Came.{Came, came, onward}
@@ -37,7 +38,7 @@ unfolding last_from answers_from texts_of
 none p code end =
     record { records = omega arith; state = refl; text = sym (append-nil p.text); used = λ few e. omega (arith, end few e) }
 
-one : {turns : ℕ} {rest : List ℕ} (p : Run) (r : Record) (n : ℕ) {es : List Numbers} {q : Run} → record_of rest ≡ Whole r n
+one : {turns : ℕ} {rest : List ℕ} (p : Run) (r : Record) (n : ℕ) {es : List Numbers} {q : Run} → record_of rest ≡ Ok (r, n)
     → Goes turns (drop n rest) (went p (answer_to p.state r).state n (text_of (answer_to p.state r))) es q → Goes (suc turns) rest p (numbers_of r ∷ es) q
 unfolding answers_from texts_of
 one {rest} p r n {es} read g =
@@ -82,8 +83,8 @@ no_sixes : (es : List Numbers) (s : State) → well_formed s ≡ true → sixes 
 unfolding answers_from sixes
 no_sixes [] s h = refl
 no_sixes (e ∷ es) s h =
-    let small : (step_of s e).code < 6 = well_has (λ (x : Answer). x.code < 6) s (λ code small. small) e h (λ e is taken. omega arith) in
-    rw (ne_eqb (step_of s e).code 6 (λ z. omega arith)) (no_sixes es (step_of s e).state (steps_well_formed s e h))
+    let small : number_of (step_of s e).code < 6 = well_has (λ (x : Answer). number_of x.code < 6) s (λ code small. small) e h (λ e is taken. omega arith) in
+    rw (ne_eqb (number_of (step_of s e).code) 6 (λ z. omega arith)) (no_sixes es (step_of s e).state (steps_well_formed s e h))
 
 pub replay_never_six : ReplayNeverSix
 replay_never_six address h trace room = no_sixes _ _ (fresh_well_formed address h)

@@ -1,4 +1,5 @@
 -- The bound, of the entry that C calls: it refuses at once, or is a run. Assumes nothing.
+use Rattle.rules.specs.Codes.{number_of}
 use Prim.Native.Nat.{ℕ, ◌*◌, ◌/◌, ◌≤◌}
 use native.Mathlib.Omega.{arith}
 use mathlib.Core.Path.{◌≡◌, refl, ap, sym, ◌∙◌}
@@ -12,7 +13,8 @@ use Rattle.rules.specs.PowerOn.{made_of}
 use Rattle.replay_rules.specs.Best.{hungry}
 use Rattle.replay_rules.specs.Enough.{Bound, EachIsBest, EntryBound, EntryTaken, RoomyMeans}
 use Rattle.replay_rules.specs.Play.{Run, run_of}
-use Rattle.replay_rules.specs.Replay.{Replayed, Result, played, refused_at_once, replay_from, replay_of, report_of, untouched, word_at}
+use Rattle.blocks.specs.Blocks.{word_at}
+use Rattle.replay_rules.specs.Replay.{Replayed, Result, played, refused_at_once, replay_from, replay_of, report_of, untouched}
 use Rattle.replay_rules.specs.Room.{room_of}
 use Rattle.replay_rules.proofs.Best.{hungry_needs}
 use Rattle.replay_rules.proofs.ReplayCases.{taken}
@@ -44,7 +46,7 @@ module _ (address : ℤ) (trace output report : List ℕ) where
 
 pub entry_bound : EntryBound
 unfolding replay_from
-entry_bound address trace output report r output' report' p = bound address trace output report (refused_at_once (made_of address) trace output report) p
+entry_bound address trace output report r output' report' p = bound address trace output report (refused_at_once (number_of (made_of address).code) trace output report) p
 
 -- ---- 16 MiB ----
 

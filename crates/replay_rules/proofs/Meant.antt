@@ -1,14 +1,17 @@
 -- What a turn, a run's first turn, a report's numbers and the promises mean. Assumes nothing.
-use Prim.Native.Nat.{ℕ, suc, ◌<◌}
+use Rattle.std.specs.Prelude.{Option, Some, None, Ok, Err}
+use Prim.Native.Nat.{ℕ, zero, suc, ◌-◌, ◌<◌}
 use native.Mathlib.Omega.{arith}
 use mathlib.Core.Path.{◌≡◌, refl}
 use mathlib.Core.List.{List, [], ◌∷◌}
-use lib.ListN.{length}
+use lib.ListN.{length, drop}
+use lib.Dec.{eqb}
+use mathlib.Core.Bool.{Bool, true, false, cond}
 use borrow.Author.Tests.{le-leb, lt-leb, ne_eqb}
 use Rattle.rules.specs.declared.state.State.{State}
-use Rattle.replay_rules.specs.declared.play.Turn.TheVariants.{Stopped}
+use Rattle.replay_rules.specs.declared.play.Stop.{Stop}
 use Rattle.replay_rules.specs.Meant.{NumbersMean, PromisesMet, ReportsMean, RoomMeans, RunsBegin, TurnsMean, WordsMean}
-use Rattle.replay_rules.specs.Play.{run_from, run_of, turn_of}
+use Rattle.replay_rules.specs.Play.{Run, Turn, added_of, begun, end_code, ended, on_turn, run_from, run_of, stop_code, turn_of, went}
 use Rattle.replay_rules.specs.Replay.{report_of}
 use Rattle.replay_rules.proofs.Words.{word_back}
 
@@ -22,10 +25,10 @@ turns_mean s rest room =
       bad = λ e. rw e;
     }
 
-begins : (s : State) (room : ℕ) (trace : List ℕ) (code : ℕ) → 0 < length trace → turn_of s trace room ≡ Stopped code → run_of s trace room ≡ record { code = code; records = 0; used = 0; text = []; state = s }
+begins : (s : State) (room : ℕ) (trace : List ℕ) (stop : Stop) → 0 < length trace → turn_of s trace room ≡ Err stop → run_of s trace room ≡ record { code = stop_code stop; records = 0; used = 0; text = []; state = s }
 unfolding run_from run_of
-begins s room [] code h e = absurd (omega arith)
-begins s room (x ∷ xs) code h e = rw (e, ne_eqb (suc (length xs)) 0 (λ z. omega arith))
+begins s room [] stop h e = absurd (omega arith)
+begins s room (x ∷ xs) stop h e = rw (e, ne_eqb (suc (length xs)) 0 (λ z. omega arith))
 
 pub runs_begin : RunsBegin
 unfolding run_from run_of
@@ -56,13 +59,31 @@ numbers_mean =
       written = λ n. refl;
       full = refl;
       went = λ s n k. refl;
-      stopped = λ code. refl;
+      unread = refl;
+      stopped = refl;
+      ended = refl;
+      stop = λ stop. refl;
     }
 
+-- what stops a run is one of the two, or nothing
+pub stops : (turns : ℕ) (p : Run) (rest : List ℕ) (room : ℕ) → (stop : Option Stop) × (end_code stop ≡ (run_from turns p rest room).code)
+unfolding run_from
+stops zero p rest room = (None, refl)
+stops (suc turns) p rest room = by (λ s n k. stops turns (went p s n (added_of p.state rest room)) (drop n rest) (room - k)) (eqb (length rest) 0) (turn_of p.state rest room)
+  where
+    by : ((s : State) (n k : ℕ) → (stop : Option Stop) × (end_code stop ≡ (run_from turns (went p s n (added_of p.state rest room)) (drop n rest) (room - k)).code)) → (b : Bool) (t : Turn) → (stop : Option Stop) × (end_code stop ≡ (cond b (ended p 0) (on_turn t (λ s n k. run_from turns (went p s n (added_of p.state rest room)) (drop n rest) (room - k)) (λ code. ended p code))).code)
+    by more true t = (None, refl)
+    by more false (Ok g) = more g.state g.used g.written
+    by more false (Err stop) = (Some stop, refl)
+
 pub promises_met : PromisesMet
+unfolding run_of
 promises_met s rest before wanted =
     record {
       turned = record { said = refl; bytes = refl };
-      ran = λ p e. rw (← e) (record { code = refl; records = refl; used = refl; written = refl; state = refl; bytes = refl });
+      ran = (
+        (stops (length rest) (begun s) rest (length before)).0,
+        λ p e. rw (← e) (record { code = (stops (length rest) (begun s) rest (length before)).1; records = refl; used = refl; written = refl; state = refl; bytes = refl }),
+      );
       replayed = record { code = refl; bytes = refl; told = refl };
     }

@@ -1,4 +1,5 @@
 -- A play under way, and its ways on: one turn more, stopped, at the end. The loop's invariant is `Mid`. Assumes nothing.
+use Rattle.std.specs.Prelude.{Option, Some, None, Ok, Err}
 use Prim.Native.Nat.{ℕ, zero, suc, ◌+◌, ◌-◌, ◌≤◌, ◌<◌}
 use native.Mathlib.Nat.{sub-add-eq, sub-zero}
 use native.Mathlib.Omega.{arith}
@@ -11,14 +12,14 @@ use lib.Seq.{drop-drop}
 use borrow.Author.Tests.{ne_eqb}
 use Rattle.rules.specs.declared.state.State.{State}
 use Rattle.text_rules.specs.declared.record.Record.{Record}
-use Rattle.text_rules.specs.declared.record.Parsed.TheVariants.{Whole}
 use Rattle.text_rules.specs.Record.{record_of}
 use Rattle.text_rules.specs.Sizes.{shortest_record}
 use Rattle.text_rules.proofs.Put.{front_length, front_none, front_then, rest}
 use Rattle.text_rules.proofs.Records.{record_fits}
-use Rattle.replay_rules.specs.declared.play.Turn.{Turn}
-use Rattle.replay_rules.specs.declared.play.Turn.TheVariants.{Went, Stopped}
-use Rattle.replay_rules.specs.Play.{Mid, Ran, Run, Turned, added_of, ended, run_from, run_of, turn_of}
+use Rattle.replay_rules.specs.declared.play.Stop.{Stop}
+use Rattle.replay_rules.specs.declared.play.Stop.TheVariants.{Record as NoRecord}
+use Rattle.replay_rules.specs.declared.play.Went.{Went}
+use Rattle.replay_rules.specs.Play.{Turn, end_code, Mid, Ran, Run, Turned, added_of, ended, run_from, run_of, turn_of}
 use Rattle.replay_rules.proofs.Came.{Came, came_so}
 use Rattle.replay_rules.proofs.Came.Came.{On, Full, Bad}
 
@@ -29,12 +30,12 @@ record Gone (part : List ℕ) (room n k : ℕ) (text : List ℕ) : Type 0 where
   long : shortest_record ≤ n
   inside : n ≤ length part
 
-gone : {s : State} {part : List ℕ} {room : ℕ} {t : State} {n k : ℕ} {text : List ℕ} → Came s part room (Went t n k) text → Gone part room n k text
+gone : {s : State} {part : List ℕ} {room : ℕ} {g : Went} {text : List ℕ} → Came s part room (Ok g) text → Gone part room g.used g.written text
 gone {part} (On r n read fits) =
     record { count = refl; fits = fits; long = (record_fits part read).0; inside = (record_fits part read).1 }
 
 -- a turn that was stopped added nothing
-idle : {s : State} {part : List ℕ} {room code : ℕ} {text : List ℕ} → Came s part room (Stopped code) text → text ≡ []
+idle : {s : State} {part : List ℕ} {room : ℕ} {stop : Stop} {text : List ℕ} → Came s part room (Err stop) text → text ≡ []
 idle (Full r n read full) = refl
 idle (Bad all) = refl
 
@@ -61,7 +62,7 @@ abbrev pub back : ℕ → List ℕ → List ℕ → List ℕ
 back n l part = take n l ++ (part ++ drop (length l - n) (drop n l))
 
 -- where a record stands the trace goes on
-pub record_left : (u : ℕ) (t : List ℕ) {r : Record} {n : ℕ} → record_of (from u t) ≡ Whole r n → u < length t
+pub record_left : (u : ℕ) (t : List ℕ) {r : Record} {n : ℕ} → record_of (from u t) ≡ Ok (r, n) → u < length t
 record_left u t {n} read =
     let f = record_fits (from u t) read in
     let h : n ≤ length (drop u t) = rw (rest u t) at f.1 in
@@ -75,11 +76,11 @@ module _ {s : State} {t x₀ x : List ℕ} {now : State} {n u w : ℕ} (m : Mid 
   abbrev so : ℕ → Run
   so code = record { code = code; records = n; used = u; text = m.text; state = now }
 
-  reached : {code : ℕ} {x' : List ℕ} → run_of s t (length x₀) ≡ so code → x' ≡ x → Ran s t x₀ x' (record { code = code; records = n; used = u; written = w; state = now })
+  reached : {stop : Option Stop} {x' : List ℕ} → run_of s t (length x₀) ≡ so (end_code stop) → x' ≡ x → Ran s t x₀ x' (record { stop = stop; records = n; used = u; written = w; state = now })
   reached ran same =
       record { code = rw ran; records = rw ran; used = rw ran; written = rw ran m.front.count; state = rw ran; bytes = rw ran (same ∙ m.front.bytes) }
 
-  pub mid_end : length t ≤ u → Ran s t x₀ x (record { code = 0; records = n; used = u; written = w; state = now })
+  pub mid_end : length t ≤ u → Ran s t x₀ x (record { stop = None; records = n; used = u; written = w; state = now })
   mid_end e = reached (m.goes ∙ rw (drop_of_length-le t {i = u} e) (at_end (length t - n) (so 0) (length x₀ - w))) refl
 
   module _ (left : u < length t) {ys : List ℕ} {r : Turn} (turn : Turned now (from u t) (from w x) ys r) where
@@ -93,12 +94,14 @@ module _ {s : State} {t x₀ x : List ℕ} {now : State} {n u w : ℕ} (m : Mid 
     said e = rw (rest u t, room) at (sym turn.said ∙ e)
 
     -- no record is shorter than the shortest
-    pub turn_long : {later : State} {k j : ℕ} → r ≡ Went later k j → shortest_record ≤ k
+    pub turn_long : {g : Went} → r ≡ Ok g → shortest_record ≤ g.used
     turn_long e = (gone (came_so turn e)).long
 
-    pub mid_step : {later : State} {k j : ℕ} → r ≡ Went later k j → Mid s t x₀ (back w x ys) later (n + 1) (u + k) (w + j)
+    pub mid_step : {v : Went} → r ≡ Ok v → Mid s t x₀ (back w x ys) v.state (n + 1) (u + v.used) (w + v.written)
     unfolding run_from
-    mid_step {k} {j} e =
+    mid_step {v} e =
+        let k = v.used in
+        let j = v.written in
         let g = gone (came_so turn e) in
         record {
           text = m.text ++ added_of now (from u t) (length (from w x));
@@ -109,18 +112,18 @@ module _ {s : State} {t x₀ x : List ℕ} {now : State} {n u w : ℕ} (m : Mid 
         }
 
     -- a turn that is stopped leaves the output as it was
-    pub mid_same : {code : ℕ} → r ≡ Stopped code → back w x ys ≡ x
+    pub mid_same : {stop : Stop} → r ≡ Err stop → back w x ys ≡ x
     mid_same e =
         let same : ys ≡ from w x = turn.bytes ∙ rw (idle (came_so turn e)) in
         rw (same, take-append-drop (length x - w) (drop w x), take-append-drop w x)
 
-    pub mid_stop : {code : ℕ} → r ≡ Stopped code → Ran s t x₀ (back w x ys) (record { code = code; records = n; used = u; written = w; state = now })
+    pub mid_stop : {stop : Stop} → r ≡ Err stop → Ran s t x₀ (back w x ys) (record { stop = Some stop; records = n; used = u; written = w; state = now })
     unfolding run_from
     mid_stop e = reached (m.goes ∙ rw (fuel, more, said e)) (mid_same e)
 
   -- no record stands there
-  pub mid_bad : u < length t → ((before : List ℕ) → Turned now (drop u t) before before (Stopped 7)) → Ran s t x₀ x (record { code = 7; records = n; used = u; written = w; state = now })
+  pub mid_bad : u < length t → ((before : List ℕ) → Turned now (drop u t) before before (Err NoRecord)) → Ran s t x₀ x (record { stop = Some NoRecord; records = n; used = u; written = w; state = now })
   unfolding run_from
   mid_bad left bad =
-      let turn : Turned now (from u t) (from w x) (from w x) (Stopped 7) = rw (rest u t) (bad (from w x)) in
+      let turn : Turned now (from u t) (from w x) (from w x) (Err NoRecord) = rw (rest u t) (bad (from w x)) in
       reached (m.goes ∙ rw (fuel left turn, more left turn, said left turn refl)) refl

@@ -1,10 +1,12 @@
 -- The cases hold of replay's definition, by computation; the lengths by the tests that refuse. Assumes nothing.
+use lib.Dec.{eqb}
+use Rattle.rules.specs.declared.answer.Code.TheVariants.{Done}
+use Rattle.rules.specs.Codes.{number_of}
 use Prim.Native.Nat.{ℕ, ◌≤◌}
 use native.Mathlib.Omega.{arith}
 use mathlib.Core.Path.{◌≡◌, refl}
 use mathlib.Core.Bool.{Bool, true, ◌||◌, not, or-true}
 use mathlib.Core.List.{List}
-use lib.Dec.{eqb}
 use lib.IntN.{ℤ}
 use lib.ListN.{length}
 use borrow.Author.Tests.{lt-ltb, le-ltb, ne_eqb, eq-eqb}
@@ -20,9 +22,9 @@ replay_cases = refl
 
 module _ (address : ℤ) (trace output report : List ℕ) where
   abbrev bad : Bool
-  bad = not (eqb (made_of address).code 0)
+  bad = not (eqb (number_of (made_of address).code) 0)
 
-  refuses : refused_at_once (made_of address) trace output report ≡ true → replay_of address trace output report ≡ record { code = 2; output = output; report = report }
+  refuses : refused_at_once (number_of (made_of address).code) trace output report ≡ true → replay_of address trace output report ≡ record { code = 2; output = output; report = report }
   unfolding replay_from
   refuses e = rw e refl
 
@@ -35,9 +37,9 @@ module _ (address : ℤ) (trace output report : List ℕ) where
         long_report = λ h. refuses (rw (ne_eqb (length report) 16 (λ e. omega arith), or-true (bad || too_long trace || too_long output)));
       }
 
-  pub taken : (made_of address).code ≡ 0 → length trace ≤ 16777216 → length output ≤ 16777216 → length report ≡ 16 → replay_of address trace output report ≡ played (run_of (made_of address).state trace (length output)) output
+  pub taken : (made_of address).code ≡ Done → length trace ≤ 16777216 → length output ≤ 16777216 → length report ≡ 16 → replay_of address trace output report ≡ played (run_of (made_of address).state trace (length output)) output
   unfolding replay_from
-  taken made t o r = simp (eq-eqb (made_of address).code 0 made, le-ltb 16777216 (length trace) t, le-ltb 16777216 (length output) o, eq-eqb (length report) 16 r)
+  taken made t o r = simp (made, le-ltb 16777216 (length trace) t, le-ltb 16777216 (length output) o, eq-eqb (length report) 16 r)
 
 pub lengths_refused : LengthsRefused
 lengths_refused = lengths

@@ -10,13 +10,14 @@ use lib.Dec.{eqb}
 use lib.ListN.{length, drop, length-append, length-drop}
 use borrow.Author.Tests.{le-leb}
 use Rattle.rules.specs.declared.state.State.{State}
-use Rattle.rules.proofs.NeverSix.{step_code}
+use Rattle.rules.proofs.Codes.{number_small}
+use Rattle.rules.specs.Codes.{number_of}
 use Rattle.text_rules.specs.declared.record.Record.{Record}
 use Rattle.text_rules.specs.Sizes.{longest_answer, shortest_record}
 use Rattle.text_rules.proofs.Records.{record_fits}
 use Rattle.text_rules.proofs.Size.{answer_short}
-use Rattle.replay_rules.specs.declared.play.Turn.{Turn}
-use Rattle.replay_rules.specs.Play.{Run, added_of, answer_to, begun, ended, numbers_of, run_from, run_of, text_of, turn_of, went}
+use Rattle.replay_rules.specs.Play.{Turn}
+use Rattle.replay_rules.specs.Play.{Run, added_of, answer_to, begun, ended, run_from, run_of, text_of, turn_of, went}
 use Rattle.replay_rules.specs.Room.{AnswersFit, FewRecords, NoEight, SameRun, room_of}
 use Rattle.replay_rules.proofs.Came.{Came, came, onward}
 use Rattle.replay_rules.proofs.Came.Came.{On, Full, Bad}
@@ -24,8 +25,7 @@ use Rattle.replay_rules.proofs.Came.Came.{On, Full, Bad}
 text_short : (s : State) (r : Record) → length (text_of (answer_to s r)) ≤ longest_answer
 unfolding text_of
 text_short s r =
-    let h : (answer_to s r).code < 7 = step_code s (numbers_of r) in
-    answer_short (answer_to s r).code (answer_to s r).reply (answer_to s r).alert (answer_to s r).therm (omega arith)
+    answer_short (number_of (answer_to s r).code) (answer_to s r).reply (answer_to s r).alert (answer_to s r).therm (omega (arith, number_small (answer_to s r).code))
 
 -- the room of n bytes, of which a record takes m, is that of one answer and of the bytes behind the record
 one_less : (n m : ℕ) → shortest_record ≤ m → m ≤ n → longest_answer + room_of (n - m) ≤ room_of n

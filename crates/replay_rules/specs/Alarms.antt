@@ -1,5 +1,6 @@
 -- No alarm is lost and none invented in a whole replay: the demand of the rules' Alarm, for the events that a replay consumes.
 -- The proof is in proofs/Alarms.antt; that events are consumed at all, in Examples.antt. Assumes nothing.
+use Rattle.rules.specs.declared.answer.Code.TheVariants.{Done}
 use Rattle.std.specs.Prelude.{ℕ, ◌≡◌, List, ◌∷◌, ◌++◌, ℤ}
 use Rattle.rules.specs.declared.event.Numbers.{Numbers}
 use Rattle.rules.specs.Alarm.{Demand, Shows, history_of, state_of}
@@ -31,4 +32,4 @@ pub record InReplay (address : ℤ) (trace : List ℕ) (room : ℕ) : Type 0 whe
   pub each : (earlier : List Numbers) (e : Numbers) (later : List Numbers) → events_at address trace room ≡ earlier ++ (e ∷ later) → AnswerShown address trace room earlier e later
 
 abbrev pub ReplayNoAlarmLost : Type 0
-ReplayNoAlarmLost = (address : ℤ) → (made_of address).code ≡ 0 → (trace : List ℕ) (room : ℕ) → InReplay address trace room
+ReplayNoAlarmLost = (address : ℤ) → (made_of address).code ≡ Done → (trace : List ℕ) (room : ℕ) → InReplay address trace room

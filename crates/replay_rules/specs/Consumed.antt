@@ -1,21 +1,20 @@
 -- The events that a replay consumes, what they are answered, and what is shown of them: a replay is its events sent one after the
 -- other. Proofs in proofs/Consumed.antt. Assumes nothing.
-use Rattle.std.specs.Prelude.{ℕ, zero, suc, ◌+◌, ◌-◌, ◌≡◌, cond, List, [], ◌∷◌, ◌++◌, eqb, ℤ, length, drop}
+use Rattle.rules.specs.declared.answer.Code.TheVariants.{Done}
+use Rattle.rules.specs.Codes.{number_of}
+use Rattle.std.specs.Prelude.{ℕ, zero, suc, ◌+◌, ◌-◌, ◌≡◌, cond, List, [], ◌∷◌, ◌++◌, eqb, ℤ, length, drop, Ok, Err}
 use Rattle.rules.specs.declared.event.Numbers.{Numbers}
 use Rattle.rules.specs.declared.state.State.{State}
 use Rattle.rules.specs.declared.answer.Answer.{Answer}
 use Rattle.rules.specs.PowerOn.{made_of}
 use Rattle.rules.specs.Step.{after, step_of}
-use Rattle.text_rules.specs.declared.record.Parsed.{Parsed}
-use Rattle.text_rules.specs.declared.record.Parsed.TheVariants.{Whole, Part, Malformed}
-use Rattle.text_rules.specs.Record.{record_of}
+use Rattle.text_rules.specs.Record.{Parsed, record_of}
 use Rattle.replay_rules.specs.Play.{numbers_of, on_turn, run_of, text_of, turn_of}
 
 -- a record's event; without a record there is none
 abbrev pub events_of : Parsed → List Numbers
-events_of (Whole r n) = numbers_of r ∷ []
-events_of Part = []
-events_of Malformed = []
+events_of (Ok (r, n)) = numbers_of r ∷ []
+events_of (Err e) = []
 
 -- the events of the turns that went on: "nothing of it reaches the state" where the rest yields no record, "A record stopped by 8
 -- isn't applied"
@@ -57,10 +56,10 @@ AllUsed =
 -- how many of the answers have code 6
 unfoldable pub sixes : List Answer → ℕ
 sixes [] = 0
-sixes (a ∷ more) = cond (eqb a.code 6) (1 + sixes more) (sixes more)
+sixes (a ∷ more) = cond (eqb (number_of a.code) 6) (1 + sixes more) (sixes more)
 
 -- "It starts from power-on": no answer of a replay has code 6
 abbrev pub ReplayNeverSix : Type 0
 ReplayNeverSix =
-    (address : ℤ) → (made_of address).code ≡ 0 → (trace : List ℕ) (room : ℕ)
+    (address : ℤ) → (made_of address).code ≡ Done → (trace : List ℕ) (room : ℕ)
     → sixes (answers_from (made_of address).state (consumed_of (made_of address).state trace room)) ≡ 0

@@ -1,11 +1,13 @@
 -- Document 02, item 5, of the entry that C calls: what the promise of `replay` gives with that much room, and with any. Proofs in
 -- proofs/Enough.antt. Assumes nothing.
+use Rattle.rules.specs.declared.answer.Code.TheVariants.{Done}
 use Rattle.std.specs.Prelude.{ℕ, ◌*◌, ◌/◌, ◌≤◌, ◌<◌, ◌≡◌, ◌⊎◌, List, ℤ, length, replicate}
 use Rattle.std.proofs.Math.IntN.ℤ.{pos}
 use Rattle.rules.specs.PowerOn.{made_of}
 use Rattle.text_rules.specs.Sizes.{shortest_record}
 use Rattle.replay_rules.specs.Best.{hungry}
-use Rattle.replay_rules.specs.Replay.{Replayed, replay_of, word_at}
+use Rattle.blocks.specs.Blocks.{word_at}
+use Rattle.replay_rules.specs.Replay.{Replayed, replay_of}
 use Rattle.replay_rules.specs.Room.{room_of}
 
 -- whatever keeps that promise, for every address, trace, output and report: "with at least 33 output bytes for each full 19 bytes of trace,
@@ -33,7 +35,7 @@ RoomyMeans = (n : ℕ) → Roomy n
 -- so up to there exactly that room is taken, and every trace is answered whole or up to a record that is malformed
 abbrev pub EntryTaken : Type 0
 EntryTaken =
-    (address : ℤ) → (made_of address).code ≡ 0 → (trace output report : List ℕ) → length trace ≤ longest_roomy → length output ≡ room_of (length trace) → length report ≡ 16
+    (address : ℤ) → (made_of address).code ≡ Done → (trace output report : List ℕ) → length trace ≤ longest_roomy → length output ≡ room_of (length trace) → length report ≡ 16
     → (r : ℤ) (output' report' : List ℕ) → Replayed (replay_of address trace output report) r output' report' → (r ≡ pos 0) ⊎ (r ≡ pos 7)
 
 -- neither 32 for each 19 nor 33 for each 20 would do: the same trace is stopped by 8 with either, and answered with 33 for each 19

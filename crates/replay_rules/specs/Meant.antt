@@ -1,26 +1,27 @@
 -- What a turn, a run's first turn, a report's numbers and the promises mean, in other words: an error made in their definitions and in the
 -- code alike is refused here. The proofs are in proofs/Meant.antt. Assumes nothing.
-use Rattle.std.specs.Prelude.{ℕ, ◌+◌, ◌*◌, ◌<◌, ◌≤◌, ◌≡◌, List, [], ◌∷◌, ◌++◌, drop, length}
+use Rattle.std.specs.Prelude.{ℕ, ◌+◌, ◌*◌, ◌<◌, ◌≤◌, ◌≡◌, List, [], ◌∷◌, ◌++◌, drop, length, Option, Some, None, Ok, Err}
 use Rattle.std.proofs.Math.IntN.ℤ.{pos}
 use Rattle.rules.specs.declared.state.State.{State}
 use Rattle.rules.specs.Step.{step_of}
-use Rattle.text_rules.specs.declared.answer.Wrote.TheVariants.{Bytes, NoRoom}
-use Rattle.text_rules.specs.declared.record.Parsed.TheVariants.{Whole, Part, Malformed}
+use Rattle.text_rules.specs.declared.record.Unread.TheVariants.{Part, Malformed}
 use Rattle.text_rules.specs.declared.record.Record.{Record}
 use Rattle.text_rules.specs.Answer.{wrote_code}
 use Rattle.text_rules.specs.Record.{parsed_code, record_of}
-use Rattle.replay_rules.specs.declared.play.Turn.TheVariants.{Went, Stopped}
-use Rattle.replay_rules.specs.Play.{Ran, Run, Turned, added_of, numbers_of, run_of, text_of, turn_code, turn_of}
-use Rattle.replay_rules.specs.Replay.{Replayed, Result, report_of, word, word_at}
+use Rattle.replay_rules.specs.declared.play.Stop.{Stop}
+use Rattle.replay_rules.specs.declared.play.Stop.TheVariants.{Record as NoRecord, Room}
+use Rattle.replay_rules.specs.Play.{Ran, Run, Turned, added_of, end_code, going, numbers_of, run_of, stop_code, text_of, turn_code, turn_of}
+use Rattle.blocks.specs.Blocks.{word, word_at}
+use Rattle.replay_rules.specs.Replay.{Replayed, Result, report_of}
 use Rattle.replay_rules.specs.Room.{room_of}
 
 -- a record whose answer fits is answered, whatever its code; one whose answer does not is code 8; no record is code 7, whatever the room
 pub record Turning (s : State) (rest : List ℕ) (room : ℕ) : Type 0 where
-  pub on : (r : Record) (n : ℕ) → record_of rest ≡ Whole r n → length (text_of (step_of s (numbers_of r))) ≤ room
-      → turn_of s rest room ≡ Went (step_of s (numbers_of r)).state n (length (text_of (step_of s (numbers_of r))))
-  pub full : (r : Record) (n : ℕ) → record_of rest ≡ Whole r n → room < length (text_of (step_of s (numbers_of r))) → turn_of s rest room ≡ Stopped 8
-  pub part : record_of rest ≡ Part → turn_of s rest room ≡ Stopped 7
-  pub bad : record_of rest ≡ Malformed → turn_of s rest room ≡ Stopped 7
+  pub on : (r : Record) (n : ℕ) → record_of rest ≡ Ok (r, n) → length (text_of (step_of s (numbers_of r))) ≤ room
+      → turn_of s rest room ≡ going (step_of s (numbers_of r)).state n (length (text_of (step_of s (numbers_of r))))
+  pub full : (r : Record) (n : ℕ) → record_of rest ≡ Ok (r, n) → room < length (text_of (step_of s (numbers_of r))) → turn_of s rest room ≡ Err Room
+  pub part : record_of rest ≡ Err Part → turn_of s rest room ≡ Err NoRecord
+  pub bad : record_of rest ≡ Err Malformed → turn_of s rest room ≡ Err NoRecord
 
 abbrev pub TurnsMean : Type 0
 TurnsMean = (s : State) (rest : List ℕ) (room : ℕ) → Turning s rest room
@@ -28,8 +29,8 @@ TurnsMean = (s : State) (rest : List ℕ) (room : ℕ) → Turning s rest room
 -- "An empty rest is the end, code 0"; "the counts leave out whatever stopped the replay"
 pub record Beginning (s : State) (room : ℕ) : Type 0 where
   pub empty : run_of s [] room ≡ record { code = 0; records = 0; used = 0; text = []; state = s }
-  pub stopped : (trace : List ℕ) (code : ℕ) → 0 < length trace → turn_of s trace room ≡ Stopped code
-      → run_of s trace room ≡ record { code = code; records = 0; used = 0; text = []; state = s }
+  pub stopped : (trace : List ℕ) (stop : Stop) → 0 < length trace → turn_of s trace room ≡ Err stop
+      → run_of s trace room ≡ record { code = stop_code stop; records = 0; used = 0; text = []; state = s }
 
 abbrev pub RunsBegin : Type 0
 RunsBegin = (s : State) (room : ℕ) → Beginning s room
@@ -58,13 +59,16 @@ RoomMeans = (full over : ℕ) → over < 19 → room_of (19 * full + over) ≡ 3
 
 -- document 01's numbers of the answers that are enums
 pub record Numbers : Type 0 where
-  pub whole : (r : Record) (n : ℕ) → parsed_code (Whole r n) ≡ 0
-  pub part : parsed_code Part ≡ 7
-  pub malformed : parsed_code Malformed ≡ 7
-  pub written : (n : ℕ) → wrote_code (Bytes n) ≡ 0
-  pub full : wrote_code NoRoom ≡ 8
-  pub went : (s : State) (n k : ℕ) → turn_code (Went s n k) ≡ 0
-  pub stopped : (code : ℕ) → turn_code (Stopped code) ≡ code
+  pub whole : (r : Record) (n : ℕ) → parsed_code (Ok (r, n)) ≡ 0
+  pub part : parsed_code (Err Part) ≡ 7
+  pub malformed : parsed_code (Err Malformed) ≡ 7
+  pub written : (n : ℕ) → wrote_code (Some n) ≡ 0
+  pub full : wrote_code None ≡ 8
+  pub went : (s : State) (n k : ℕ) → turn_code (going s n k) ≡ 0
+  pub unread : turn_code (Err NoRecord) ≡ 7
+  pub stopped : turn_code (Err Room) ≡ 8
+  pub ended : end_code None ≡ 0
+  pub stop : (stop : Stop) → end_code (Some stop) ≡ turn_code (Err stop)
 
 abbrev pub NumbersMean : Type 0
 NumbersMean = Numbers
@@ -72,8 +76,8 @@ NumbersMean = Numbers
 -- the promises ask for what the definitions give, and so for nothing else: no second answer meets them
 pub record Promised (s : State) (rest before : List ℕ) (wanted : Result) : Type 0 where
   pub turned : Turned s rest before (added_of s rest (length before) ++ drop (length (added_of s rest (length before))) before) (turn_of s rest (length before))
-  pub ran : (p : Run) → run_of s rest (length before) ≡ p
-      → Ran s rest before (p.text ++ drop (length p.text) before) (record { code = p.code; records = p.records; used = p.used; written = length p.text; state = p.state })
+  pub ran : (stop : Option Stop) × ((p : Run) → run_of s rest (length before) ≡ p
+      → Ran s rest before (p.text ++ drop (length p.text) before) (record { stop = stop; records = p.records; used = p.used; written = length p.text; state = p.state }))
   pub replayed : Replayed wanted (pos wanted.code) wanted.output wanted.report
 
 abbrev pub PromisesMet : Type 0

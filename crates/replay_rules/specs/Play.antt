@@ -1,19 +1,20 @@
 -- Records read, stepped and answered one after the other, up to the end or to what stops them. Assumes nothing.
-use Rattle.std.specs.Prelude.{ℕ, zero, suc, ◌+◌, ◌*◌, ◌-◌, ◌≤◌, ◌≡◌, cond, List, [], ◌++◌, eqb, leb, length, drop}
+use Rattle.rules.specs.Codes.{number_of}
+use Rattle.std.specs.Prelude.{ℕ, zero, suc, ◌+◌, ◌*◌, ◌-◌, ◌≤◌, ◌≡◌, cond, List, [], ◌++◌, eqb, leb, length, drop, Option, Some, None, Result, Ok, Err}
 use Rattle.rules.specs.declared.event.Numbers.{Numbers}
 use Rattle.rules.specs.declared.state.State.{State}
 use Rattle.rules.specs.declared.answer.Answer.{Answer}
 use Rattle.rules.specs.Step.{step_of}
+use Rattle.text_rules.specs.declared.answer.Shown.{Shown}
 use Rattle.text_rules.specs.declared.record.Record.{Record}
-use Rattle.text_rules.specs.declared.record.Parsed.{Parsed}
-use Rattle.text_rules.specs.declared.record.Parsed.TheVariants.{Whole, Part, Malformed}
-use Rattle.text_rules.specs.Record.{parsed_code, record_of}
+use Rattle.text_rules.specs.declared.record.Unread.TheVariants.{Part, Malformed}
+use Rattle.text_rules.specs.Record.{Parsed, parsed_code, record_of}
 use Rattle.text_rules.specs.Answer.{Front, answer_text, put, wrote_code}
 use Rattle.text_rules.specs.Sizes.{shortest_record}
-use Rattle.text_rules.specs.declared.answer.Wrote.TheVariants.{NoRoom}
 use Rattle.replay_rules.specs.declared.play.Played.{Played}
-use Rattle.replay_rules.specs.declared.play.Turn.{Turn}
-use Rattle.replay_rules.specs.declared.play.Turn.TheVariants.{Went, Stopped}
+use Rattle.replay_rules.specs.declared.play.Stop.{Stop}
+use Rattle.replay_rules.specs.declared.play.Stop.TheVariants.{Record as NoRecord, Room}
+use Rattle.replay_rules.specs.declared.play.Went.{Went}
 
 -- a record's event, what it is answered, and the answer's text
 abbrev pub numbers_of : Record → Numbers
@@ -23,26 +24,44 @@ abbrev pub answer_to : State → Record → Answer
 answer_to s r = step_of s (numbers_of r)
 
 unfoldable pub text_of : Answer → List ℕ
-text_of a = answer_text a.code a.reply a.alert a.therm
+text_of a = answer_text (number_of a.code) a.reply a.alert a.therm
+
+-- what a record came to; or what stops the replay there
+abbrev pub Turn : Type 0
+Turn = Result Went Stop
+
+abbrev pub going : State → ℕ → ℕ → Turn
+going s n k = Ok (record { state = s; used = n; written = k })
+
+-- what the text shows of an answer
+abbrev pub shown_of : Answer → Shown
+shown_of a = record { code = number_of a.code; reply = a.reply; alert = a.alert; therm = a.therm }
+
+-- the record that comes next: an event that is handed over, as a record of no bytes; otherwise the one at the front of the rest
+abbrev pub record_for : Numbers → Record
+record_for e = record { kind = e.kind; a = e.a; b = e.b; c = e.c }
+
+abbrev pub next_of : Option Numbers → List ℕ → Parsed
+next_of None rest = record_of rest
+next_of (Some e) rest = Ok (record_for e, 0)
 
 -- "the answer doesn't fit in what is left of the output": code 8; "A record stopped by 8 isn't applied"
 abbrev pub fitted : Answer → ℕ → ℕ → Turn
-fitted a n room = cond (leb (length (text_of a)) room) (Went a.state n (length (text_of a))) (Stopped (wrote_code NoRoom))
+fitted a n room = cond (leb (length (text_of a)) room) (going a.state n (length (text_of a))) (Err Room)
 
 -- "Where the rest of a trace yields no record, replay stops there with code 7"; "Code 7 comes before 8"
 abbrev pub turn_from : State → ℕ → Parsed → Turn
-turn_from s room (Whole r n) = fitted (answer_to s r) n room
-turn_from s room Part = Stopped (parsed_code Part)
-turn_from s room Malformed = Stopped (parsed_code Malformed)
+turn_from s room (Ok (r, n)) = fitted (answer_to s r) n room
+turn_from s room (Err Part) = Err NoRecord
+turn_from s room (Err Malformed) = Err NoRecord
 
 unfoldable pub turn_of : State → List ℕ → ℕ → Turn
 turn_of s rest room = turn_from s room (record_of rest)
 
 -- the text that one record adds to the output: none where it was stopped
 abbrev pub added_from : State → ℕ → Parsed → List ℕ
-added_from s room (Whole r n) = cond (leb (length (text_of (answer_to s r))) room) (text_of (answer_to s r)) []
-added_from s room Part = []
-added_from s room Malformed = []
+added_from s room (Ok (r, n)) = cond (leb (length (text_of (answer_to s r))) room) (text_of (answer_to s r)) []
+added_from s room (Err e) = []
 
 unfoldable pub added_of : State → List ℕ → ℕ → List ℕ
 added_of s rest room = added_from s room (record_of rest)
@@ -66,14 +85,22 @@ ended p code = record { code = code; records = p.records; used = p.used; text = 
 abbrev pub went : Run → State → ℕ → List ℕ → Run
 went p s n text = record { code = 0; records = p.records + 1; used = p.used + n; text = p.text ++ text; state = s }
 
--- document 01's number for each case
+-- document 01's number for each case: 7, "Where the rest of a trace yields no record"; 8, "the answer doesn't fit"; 0 where nothing stopped
+abbrev pub stop_code : Stop → ℕ
+stop_code NoRecord = parsed_code (Err Malformed)
+stop_code Room = wrote_code None
+
+abbrev pub end_code : Option Stop → ℕ
+end_code None = 0
+end_code (Some stop) = stop_code stop
+
 abbrev pub turn_code : Turn → ℕ
-turn_code (Went s n k) = 0
-turn_code (Stopped code) = code
+turn_code (Ok w) = 0
+turn_code (Err stop) = stop_code stop
 
 abbrev pub on_turn : {A : Type 0} → Turn → (State → ℕ → ℕ → A) → (ℕ → A) → A
-on_turn (Went s n k) on off = on s n k
-on_turn (Stopped code) on off = off (turn_code (Stopped code))
+on_turn (Ok w) on off = on w.state w.used w.written
+on_turn (Err stop) on off = off (stop_code stop)
 
 -- "An empty rest is the end, code 0"; "the counts leave out whatever stopped the replay"; "Codes 1 to 5 are answered as records
 -- and replay goes on". A record is not empty, so as many turns as the trace has bytes are enough
@@ -102,7 +129,7 @@ pub record Mid (s : State) (t x₀ x : List ℕ) (now : State) (n u w : ℕ) : T
 
 -- what a whole trace's play promises: each of its numbers, and every byte of the output
 pub record Ran (s : State) (trace before after : List ℕ) (r : Played) : Type 0 where
-  pub code : r.code ≡ (run_of s trace (length before)).code
+  pub code : end_code r.stop ≡ (run_of s trace (length before)).code
   pub records : r.records ≡ (run_of s trace (length before)).records
   pub used : r.used ≡ (run_of s trace (length before)).used
   pub written : r.written ≡ length (run_of s trace (length before)).text

@@ -1,5 +1,6 @@
 -- Document 01, Traces and their replay, and Answer codes 2, 7 and 8: what replay's definition makes of traces that are given byte by byte, with
 -- every byte of output and report. Proved in proofs/ReplayCases.antt. Assumes nothing.
+use Rattle.rules.specs.declared.answer.Code.TheVariants.{Done}
 use Rattle.std.specs.Prelude.{ℕ, ◌<◌, ◌≤◌, ◌≡◌, List, [], ◌∷◌, ◌++◌, map, ℤ, length, replicate}
 use Rattle.std.proofs.Math.IntN.ℤ.{pos, negsuc}
 use Rattle.rules.specs.PowerOn.{made_of}
@@ -224,5 +225,5 @@ LengthsRefused = (address : ℤ) (trace output report : List ℕ) → Lengths ad
 
 abbrev pub LengthsTaken : Type 0
 LengthsTaken =
-    (address : ℤ) (trace output report : List ℕ) → (made_of address).code ≡ 0 → length trace ≤ 16777216 → length output ≤ 16777216 → length report ≡ 16
+    (address : ℤ) (trace output report : List ℕ) → (made_of address).code ≡ Done → length trace ≤ 16777216 → length output ≤ 16777216 → length report ≡ 16
     → replay_of address trace output report ≡ played (run_of (made_of address).state trace (length output)) output

@@ -9,6 +9,7 @@ use lib.IntN.{ℤ}
 use lib.IntN.ℤ.{pos, negsuc}
 use borrow.Author.Tests.{le-leb, le-ltb, ltb-false, ltb-true}
 use Rattle.rules.specs.declared.answer.Answer.{Answer}
+use Rattle.rules.specs.declared.answer.Code.TheVariants.{Done, Unheard}
 use Rattle.rules.specs.declared.event.Numbers.{Numbers}
 use Rattle.rules.specs.declared.register.Channel.{Channel}
 use Rattle.rules.specs.declared.register.Register.TheVariants.{Consecutive}
@@ -19,6 +20,7 @@ use Rattle.rules.specs.declared.state.State.{State}
 use Rattle.rules.specs.Alarm.{Always, Demand, NoAlarmLost, ResetBeginsAnew, Shows, count, history_from, history_of, next, state_of, finding_at, finding_of, finds_limit, in_arow, in_therm2, is_fault, latched, latest, line_free, needs, clearing_reads_that_showed, spells_opened, stands, view_of}
 use Rattle.rules.specs.Bits.{bit}
 use Rattle.rules.specs.Channels.{any, any_channel}
+use Rattle.rules.specs.Codes.{number_of}
 use Rattle.rules.specs.Comparisons.{Comparator}
 use Rattle.rules.specs.Comparisons.Comparator.{Therm, Therm2}
 use Rattle.rules.specs.Configuration.{chooses_therm2, masked}
@@ -241,7 +243,7 @@ last_state (f ∷ es) x y e = ap (λ (s : State). (last_from (step_of s f) es).s
 
 pub after_one : (s : State) (e : Numbers) (es : List Numbers) → after s (e ∷ es) ≡ after (step_of s e).state es
 unfolding last_from
-after_one s e es = last_state es (step_of s e) (answer_of 0 0 (step_of s e).state) refl
+after_one s e es = last_state es (step_of s e) (answer_of Done 0 (step_of s e).state) refl
 
 pub all_more : (es : List Numbers) (s : State) (h : History) → well_formed s ≡ true → Agrees s h → Agrees (after s es) (history_from s.address h s es)
 unfolding history_from last_from
@@ -254,13 +256,13 @@ all_more (e ∷ es) s h w g =
     (subst (λ (a : ℕ). Agrees (after t es) (history_from a k t es)) same
     (all_more es t k (steps_well_formed s e w) (one_more s h w g e)))
 
-fresh : (address : ℤ) → (made_of address).code ≡ 0 → Agrees (made_of address).state []
+fresh : (address : ℤ) → (made_of address).code ≡ Done → Agrees (made_of address).state []
 fresh (pos a) made = by (is_address a) made
   where
-    by : (t : Bool) → (cond t (made_at a) no_state).code ≡ 0 → Agrees (cond t (made_at a) no_state).state []
+    by : (t : Bool) → (cond t (made_at a) no_state).code ≡ Done → Agrees (cond t (made_at a) no_state).state []
     by true e = powered_agrees (record { address = a })
-    by false e = absurd (omega (arith, e))
-fresh (negsuc n) made = absurd (omega (arith, made))
+    by false e = absurd (omega (arith, ap number_of e))
+fresh (negsuc n) made = absurd (omega (arith, ap number_of made))
 
 -- a chip that was just powered on, and whatever it was sent
 pub agrees : Always Agrees
@@ -287,9 +289,9 @@ pin s h g =
 -- an answer's line is its state's
 answer_line : (s : State) (n : Numbers) → (step_of s n).alert ≡ pin_line (step_of s n).state
 answer_line s n =
-    answer_has (λ (x : Answer). x.alert ≡ pin_line x.state) s (λ code small. refl) n (λ e is taken. refl)
+    answer_has (λ (x : Answer). x.alert ≡ pin_line x.state) s (λ code. refl) n (λ e is taken. refl)
 
-answered : (s : State) (t : Bool) → (cond t (answer_of 0 (response_of s.address) (responded s)) (refused 3 s)).code ≡ cond t 0 3
+answered : (s : State) (t : Bool) → (cond t (answer_of Done (response_of s.address) (responded s)) (refused Unheard s)).code ≡ cond t Done Unheard
 answered s true = refl
 answered s false = refl
 
@@ -300,7 +302,7 @@ shows s h w g =
       reads = λ e read.
           let is = subst (λ (v : View). (did_of v (check_of e)).status_read ≡ true) (sym g.seen) read in
           ((status_done s w e is).0, λ f. (noted_shown s h w g e f is).1 ∙ (g.marks f).flag);
-      responses = rw w (answered s (alert_low s) ∙ ap (λ (t : Bool). cond t 0 3) (line s h g));
+      responses = rw w (answered s (alert_low s) ∙ ap (λ (t : Bool). cond t Done Unheard) (line s h g));
       pin_alert = λ e role. answer_line s e ∙ ap not (after_event e) ∙ rw role;
       pin_therm2 = λ e role. answer_line s e ∙ ap not (after_event e) ∙ rw role;
     }
@@ -316,7 +318,7 @@ no_alarm_lost address made es =
     let s = state_of address es in
     let h = history_of address es in
     let g = agrees address made es in
-    (demand s h g, shows s h (after_well es (answer_of 0 0 (made_of address).state) (fresh_well_formed address made)) g)
+    (demand s h g, shows s h (after_well es (answer_of Done 0 (made_of address).state) (fresh_well_formed address made)) g)
 
 pub reset_begins_anew : ResetBeginsAnew
 unfolding step_of apply_of

@@ -5,6 +5,9 @@ use mathlib.Core.Path.{◌≡◌, refl, sym, ap, ◌∙◌}
 use mathlib.Core.Bool.{Bool, true, false, cond, ◌&&◌, ◌||◌, not, and_assoc}
 use lib.Dec.{eqb}
 use borrow.Author.Tests.{eqb-true, leb-true}
+use Rattle.rules.specs.declared.answer.Code.{Code}
+use Rattle.rules.specs.declared.answer.Code.TheVariants as codes
+use Rattle.rules.specs.declared.answer.Code.TheVariants.{Unheard, NoStart, NoEnd}
 use Rattle.rules.specs.declared.answer.Done.{Done}
 use Rattle.rules.specs.declared.event.Event.{Event}
 use Rattle.rules.specs.declared.event.Event.TheVariants.{Reset, Send, Write, Read, Receive, Respond, Start, End}
@@ -35,8 +38,8 @@ use Rattle.rules.proofs.WellFormed.{Well, well}
 
 -- ---- Codes and replies ----
 
-module _ (s : State) (d : Done) (code : ℕ) where
-  code_of : (t : Bool) → (cond t (done d) (refused code s)).code ≡ cond t 0 code
+module _ (s : State) (d : Done) (code : Code) where
+  code_of : (t : Bool) → (cond t (done d) (refused code s)).code ≡ cond t codes.Done code
   code_of true = refl
   code_of false = refl
 
@@ -54,17 +57,17 @@ low_is s = and_assoc s.latch (not (masked s.config)) (not (chooses_therm2 s.conf
 apply_code : (s : State) (e : Event) → (apply_of s e).code ≡ code_by (view_of s) s.latch e
 unfolding apply_of respond_of start_of end_of
 apply_code s Reset = refl
-apply_code s (Send a n) = code_of s (done_of s (Send a n)) 3 (eqb a s.address)
-apply_code s (Write a n b) = code_of s (done_of s (Write a n b)) 3 (eqb a s.address)
-apply_code s (Read a n) = code_of s (done_of s (Read a n)) 3 (eqb a s.address)
-apply_code s (Receive a) = code_of s (done_of s (Receive a)) 3 (eqb a s.address)
-apply_code s Respond = code_of s (record { reply = response_of s.address; state = responded s }) 3 (alert_low s) ∙ ap (λ (t : Bool). cond t 0 3) (low_is s)
+apply_code s (Send a n) = code_of s (done_of s (Send a n)) Unheard (eqb a s.address)
+apply_code s (Write a n b) = code_of s (done_of s (Write a n b)) Unheard (eqb a s.address)
+apply_code s (Read a n) = code_of s (done_of s (Read a n)) Unheard (eqb a s.address)
+apply_code s (Receive a) = code_of s (done_of s (Receive a)) Unheard (eqb a s.address)
+apply_code s Respond = code_of s (record { reply = response_of s.address; state = responded s }) Unheard (alert_low s) ∙ ap (λ (t : Bool). cond t codes.Done Unheard) (low_is s)
 apply_code s Start = by (standby s.config || s.busy)
   where
-    by : (t : Bool) → (cond t (refused 4 s) (done (silent (with_busy s true)))).code ≡ cond t 4 0
+    by : (t : Bool) → (cond t (refused NoStart s) (done (silent (with_busy s true)))).code ≡ cond t NoStart codes.Done
     by true = refl
     by false = refl
-apply_code s (End t) = code_of s (done_of s (End t)) 5 s.busy
+apply_code s (End t) = code_of s (done_of s (End t)) NoEnd s.busy
 
 pub codes_given : CodesGiven
 unfolding step_of
@@ -82,9 +85,9 @@ seven a h = by (eqb a 76) refl (eqb a 77) refl h
 apply_reply : (s : State) → Well s → (e : Event) → (apply_of s e).reply ≡ reply_by s e
 unfolding apply_of respond_of start_of end_of read_at_pointer status_of
 apply_reply s w Reset = refl
-apply_reply s w (Send a n) = reply_of_lem s (done_of s (Send a n)) 3 (eqb a s.address) ∙ either (eqb a s.address) 0
-apply_reply s w (Write a n b) = reply_of_lem s (done_of s (Write a n b)) 3 (eqb a s.address) ∙ either (eqb a s.address) 0
-apply_reply s w (Read a n) = reply_of_lem s (read_at_pointer (with_pointer s n)) 3 (eqb a s.address) ∙ ap (λ (b : ℕ). cond (eqb a s.address) b 0) (same (source_of n))
+apply_reply s w (Send a n) = reply_of_lem s (done_of s (Send a n)) Unheard (eqb a s.address) ∙ either (eqb a s.address) 0
+apply_reply s w (Write a n b) = reply_of_lem s (done_of s (Write a n b)) Unheard (eqb a s.address) ∙ either (eqb a s.address) 0
+apply_reply s w (Read a n) = reply_of_lem s (read_at_pointer (with_pointer s n)) Unheard (eqb a s.address) ∙ ap (λ (b : ℕ). cond (eqb a s.address) b 0) (same (source_of n))
   where
     rest_at : ℕ → Rest
     rest_at p = record { pointer = p; busy = s.busy; runs = s.runs; latch = s.latch }
@@ -97,16 +100,16 @@ apply_reply s w (Read a n) = reply_of_lem s (read_at_pointer (with_pointer s n))
     same Maker = refl
     same Revision = refl
     same Hole = refl
-apply_reply s w (Receive a) = reply_of_lem s (read_at_pointer s) 3 (eqb a s.address)
+apply_reply s w (Receive a) = reply_of_lem s (read_at_pointer s) Unheard (eqb a s.address)
 apply_reply s w Respond =
-    reply_of_lem s (record { reply = response_of s.address; state = responded s }) 3 (alert_low s)
+    reply_of_lem s (record { reply = response_of s.address; state = responded s }) Unheard (alert_low s)
     ∙ ap (λ (t : Bool). cond t (response_of s.address) 0) (low_is s) ∙ ap (λ (b : ℕ). cond (s.latch && (not (masked s.config) && not (chooses_therm2 s.config))) b 0) (seven s.address w.address)
 apply_reply s w Start = by (standby s.config || s.busy)
   where
-    by : (t : Bool) → (cond t (refused 4 s) (done (silent (with_busy s true)))).reply ≡ 0
+    by : (t : Bool) → (cond t (refused NoStart s) (done (silent (with_busy s true)))).reply ≡ 0
     by true = refl
     by false = refl
-apply_reply s w (End t) = reply_of_lem s (done_of s (End t)) 5 s.busy ∙ either s.busy 0
+apply_reply s w (End t) = reply_of_lem s (done_of s (End t)) NoEnd s.busy ∙ either s.busy 0
 
 pub replies_given : RepliesGiven
 unfolding step_of

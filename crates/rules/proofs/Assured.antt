@@ -7,6 +7,7 @@ use lib.Dec.{eqb, leb}
 use lib.IntN.{ℤ}
 use borrow.Author.Tests.{eq-eqb}
 use Rattle.rules.specs.declared.answer.Answer.{Answer}
+use Rattle.rules.specs.declared.answer.Code.TheVariants.{Done}
 use Rattle.rules.specs.declared.event.Numbers.{Numbers}
 use Rattle.rules.specs.declared.register.Channel.{Channel}
 use Rattle.rules.specs.declared.register.Register.TheVariants.{Config}
@@ -111,7 +112,7 @@ all_given (e ∷ es) x = all_given es (step_of x.state e) ∙ given_kept x.state
 
 module _ (s : State) (h : History) (w : well_formed s ≡ true) (g : Agrees s h) where
   later_well : (later : List Numbers) → well_formed (after s later) ≡ true
-  later_well later = after_well later (answer_of 0 0 s) w
+  later_well later = after_well later (answer_of Done 0 s) w
 
   shown_later : (later : List Numbers) (r : Numbers) (f : Flag) → stands f h ≡ true → unread s h later ≡ true → reads_next (after s later) (next_all s h later) r ≡ true → bit (place_of f) (step_of (after s later) r).reply ≡ true
   shown_later later r f found calm read =
@@ -120,7 +121,7 @@ module _ (s : State) (h : History) (w : well_formed s ≡ true) (g : Agrees s h)
   low_later : (later : List Numbers) → latched h ≡ true → uncleared s h later ≡ true → line_free (now s.address (next_all s h later)) ≡ true → (alert_low (after s later) ≡ true) × (pin_line (after s later) ≡ false)
   low_later later set kept free =
       let k = next_all s h later in
-      let at : line_free (now (after s later).address k) ≡ true = subst (λ (x : Given). line_free (now x.address k) ≡ true) (sym (all_given later (answer_of 0 0 s))) free in
+      let at : line_free (now (after s later).address k) ≡ true = subst (λ (x : Given). line_free (now x.address k) ≡ true) (sym (all_given later (answer_of Done 0 s))) free in
       let low : alert_low (after s later) ≡ true = line (after s later) k (all_more later s h w g) ∙ rw (still_latched later s h set kept, at) in
       (low, ap not (low_pin (after s later) low))
 
@@ -164,9 +165,9 @@ module _ (s : State) (h : History) (w : well_formed s ≡ true) (g : Agrees s h)
 
 -- ---- The claims ----
 
-module _ (address : ℤ) (made : (made_of address).code ≡ 0) (es : List Numbers) where
+module _ (address : ℤ) (made : (made_of address).code ≡ Done) (es : List Numbers) where
   well_now : well_formed (state_of address es) ≡ true
-  well_now = after_well es (answer_of 0 0 (made_of address).state) (fresh_well_formed address made)
+  well_now = after_well es (answer_of Done 0 (made_of address).state) (fresh_well_formed address made)
 
 pub faults_shown : FaultsShown
 faults_shown address made es later r f found =

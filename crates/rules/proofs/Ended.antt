@@ -4,6 +4,7 @@ use mathlib.Core.Path.{◌≡◌, refl, sym, subst, ap, ◌∙◌}
 use mathlib.Core.Bool.{Bool, true, false, cond, ◌||◌, and-true, or-false, or-true}
 use lib.Dec.{leb}
 use lib.IntN.{ℤ}
+use Rattle.rules.specs.declared.answer.Code.TheVariants.{NoEnd}
 use Rattle.rules.specs.declared.event.Samples.{Samples}
 use Rattle.rules.specs.declared.register.Channel.TheVariants.{Local, Remote}
 use Rattle.rules.specs.declared.register.Register.{Register}
@@ -65,7 +66,7 @@ module _ (s : State) (w : Well s) (local remote : ℤ) where
 ended : (broken : Bool) (P : State → Samples → State → Type 0) → ((s : State) → Well s → (local remote : ℤ) → P s (record { local = local; remote = remote; broken = broken }) (converted s (record { local = local; remote = remote; broken = broken }))) → Ends broken P
 unfolding step_of apply_of end_of
 ended broken P h s w busy e t is so =
-    subst (P s t) (sym (rw (w, is) (ap (λ (b : Bool). (cond b (done (silent (converted s t))) (refused 5 s)).state) busy)))
+    subst (P s t) (sym (rw (w, is) (ap (λ (b : Bool). (cond b (done (silent (converted s t))) (refused NoEnd s)).state) busy)))
     (subst (λ (u : Samples). P s u (converted s u)) (λ i. record { local = t.local; remote = t.remote; broken = sym so i }) (h s (well s w) t.local t.remote))
 
 pub open_holds : OpenHolds

@@ -7,13 +7,14 @@ use lib.Dec.{eqb, leb}
 use lib.IntN.{ℤ}
 use lib.IntN.ℤ.{pos, negsuc}
 use borrow.Author.Tests.{eqb-false, eqb-true, le-leb, leb-true, lt-leb}
-use Rattle.rules.specs.declared.event.Checked.{Checked}
-use Rattle.rules.specs.declared.event.Checked.TheVariants.{Good, Bad}
+use Rattle.std.specs.Prelude.{Ok, Err}
+use Rattle.rules.specs.declared.answer.Code.{Code}
+use Rattle.rules.specs.declared.answer.Code.TheVariants.{BadKind, BadField}
 use Rattle.rules.specs.declared.event.Event.{Event}
 use Rattle.rules.specs.declared.event.Event.TheVariants.{Reset, Send, Write, Read, Receive, Respond, Start, End}
 use Rattle.rules.specs.declared.event.Numbers.{Numbers}
 use Rattle.rules.specs.Bits.{weight}
-use Rattle.rules.specs.Event.{byte_of, good_if, is_bus_address, is_byte, is_local_sample, is_mark, is_remote_sample, kind_from, kinds, sample_of, samples_of, unused}
+use Rattle.rules.specs.Event.{Checked, byte_of, good_if, is_bus_address, is_byte, is_local_sample, is_mark, is_remote_sample, kind_from, kinds, sample_of, samples_of, unused}
 use Rattle.rules.specs.Forms.{AllTaken, FromTo, InRange, RefusedByKind, TakenAsSent, numbers_of, refusal_for}
 use Rattle.rules.specs.Trial.{four}
 use Rattle.rules.proofs.Lists.{Each, left, looked_at, no, right}
@@ -70,7 +71,7 @@ mark_back (negsuc n) e = no e
 
 -- ---- What is taken was sent ----
 
-good_is : (t : Bool) (f e : Event) → good_if t f ≡ Good e → (t ≡ true) × (f ≡ e)
+good_is : (t : Bool) (f e : Event) → good_if t f ≡ Ok e → (t ≡ true) × (f ≡ e)
 good_is true f e h = (refl, cc)
 good_is false f e h = absurd (let z : ◌≡◌ {A = ℕ} 0 1 = cc in omega arith)
 
@@ -79,7 +80,7 @@ Sent e n = (numbers_of e ≡ n) × InRange e
 
 module _ (k : ℕ) (a b c : ℤ) (e : Event) where
   abbrev Was : Checked → Type 0
-  Was v = v ≡ Good e → Sent e (four k a b c)
+  Was v = v ≡ Ok e → Sent e (four k a b c)
 
   -- a row of the table: with its fields in range, its event is what was sent
   row : (i : ℕ) (fields : Bool) (f : Event) → (fields ≡ true → Sent f (four i a b c)) → k ≡ i → Was (good_if fields f)
@@ -154,9 +155,9 @@ module _ (k : ℕ) (a b c : ℤ) (e : Event) where
 pub taken_as_sent : TakenAsSent
 taken_as_sent n e is = by n.kind is
   where
-    by : (kind : ℤ) → kind_from kind n.a n.b n.c ≡ Good e → (numbers_of e ≡ record { kind = kind; a = n.a; b = n.b; c = n.c }) × InRange e
+    by : (kind : ℤ) → kind_from kind n.a n.b n.c ≡ Ok e → (numbers_of e ≡ record { kind = kind; a = n.a; b = n.b; c = n.c }) × InRange e
     by (pos k) is =
-        looked_at (Was k n.a n.b n.c e) k (kinds n.a n.b n.c) (Bad 1) (each k n.a n.b n.c e) (λ rest h. absurd (let z : ◌≡◌ {A = ℕ} 0 1 = cc in omega arith)) is
+        looked_at (Was k n.a n.b n.c e) k (kinds n.a n.b n.c) (Err BadKind) (each k n.a n.b n.c e) (λ rest h. absurd (let z : ◌≡◌ {A = ℕ} 0 1 = cc in omega arith)) is
     by (negsuc k) is = absurd (let z : ◌≡◌ {A = ℕ} 0 1 = cc in omega arith)
 
 -- ---- Every event in range is taken ----
@@ -195,10 +196,10 @@ all_taken_lem (End t) h =
 past : (i k : ℕ) → i ≤ k → (k ≡ i → ⊥) → i + 1 ≤ k
 past i k p q = omega (arith, q)
 
-module _ (code k : ℕ) where
-  two_in : (i : ℕ) (fields : Bool) (f : Event) → leb i 7 ≡ true → k ≡ i → good_if fields f ≡ Bad code → code ≡ cond (leb k 7) 2 1
+module _ (code : Code) (k : ℕ) where
+  two_in : (i : ℕ) (fields : Bool) (f : Event) → leb i 7 ≡ true → k ≡ i → good_if fields f ≡ Err code → code ≡ cond (leb k 7) BadField BadKind
   two_in i true f small same is = absurd (let z : ◌≡◌ {A = ℕ} 0 1 = cc in omega arith)
-  two_in i false f small same is = let z : code ≡ 2 = cc in rw (same, small, z)
+  two_in i false f small same is = let z : code ≡ BadField = cc in rw (same, small, z)
 
   beyond : (k ≡ 0 → ⊥) → (k ≡ 1 → ⊥) → (k ≡ 2 → ⊥) → (k ≡ 3 → ⊥) → (k ≡ 4 → ⊥) → (k ≡ 5 → ⊥) → (k ≡ 6 → ⊥) → (k ≡ 7 → ⊥) → 7 < k
   beyond a b c d e f g h =
@@ -210,10 +211,10 @@ refused_by_kind n code is = by n.kind is
     none : Bool
     none = unused n.a && unused n.b && unused n.c
 
-    by : (kind : ℤ) → kind_from kind n.a n.b n.c ≡ Bad code → code ≡ refusal_for kind
+    by : (kind : ℤ) → kind_from kind n.a n.b n.c ≡ Err code → code ≡ refusal_for kind
     by (pos k) is =
-        looked_at (λ (v : Checked). v ≡ Bad code → code ≡ cond (leb k 7) 2 1) k (kinds n.a n.b n.c) (Bad 1)
+        looked_at (λ (v : Checked). v ≡ Err code → code ≡ cond (leb k 7) BadField BadKind) k (kinds n.a n.b n.c) (Err BadKind)
         (two_in code k 0 none Reset refl, (two_in code k 1 (is_bus_address n.a && is_byte n.b && unused n.c) (Send (byte_of n.a) (byte_of n.b)) refl, (two_in code k 2 (is_bus_address n.a && is_byte n.b && is_byte n.c) (Write (byte_of n.a) (byte_of n.b) (byte_of n.c)) refl, (two_in code k 3 (is_bus_address n.a && is_byte n.b && unused n.c) (Read (byte_of n.a) (byte_of n.b)) refl, (two_in code k 4 (is_bus_address n.a && unused n.b && unused n.c) (Receive (byte_of n.a)) refl, (two_in code k 5 none Respond refl, (two_in code k 6 none Start refl, (two_in code k 7 (is_local_sample n.a && is_remote_sample n.b && is_mark n.c) (End (samples_of n.a n.b n.c)) refl, tt))))))))
-        (λ r h. let far = beyond code k r.0 r.1.0 r.1.1.0 r.1.1.1.0 r.1.1.1.1.0 r.1.1.1.1.1.0 r.1.1.1.1.1.1.0 r.1.1.1.1.1.1.1.0 in let z : code ≡ 1 = cc in rw (lt-leb k 7 far, z))
+        (λ r h. let far = beyond code k r.0 r.1.0 r.1.1.0 r.1.1.1.0 r.1.1.1.1.0 r.1.1.1.1.1.0 r.1.1.1.1.1.1.0 r.1.1.1.1.1.1.1.0 in let z : code ≡ BadKind = cc in rw (lt-leb k 7 far, z))
         is
     by (negsuc k) is = cc

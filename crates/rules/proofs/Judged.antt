@@ -6,6 +6,7 @@ use mathlib.Core.Bool.{Bool, true, false, cond, not, ◌&&◌, ◌||◌, and-fal
 use lib.IntN.ℤ.{pos, negsuc}
 use borrow.Author.Tests.{eq-eqb, eqb-true, le-leb, leb-true}
 use Rattle.rules.specs.declared.answer.Answer.{Answer}
+use Rattle.rules.specs.declared.answer.Code.TheVariants.{BadField}
 use Rattle.rules.specs.declared.register.Channel.{Channel}
 use Rattle.rules.specs.declared.register.Channel.TheVariants.{Local, Remote}
 use Rattle.rules.specs.declared.register.Register.{Register}
@@ -13,6 +14,7 @@ use Rattle.rules.specs.declared.state.ChannelState.{ChannelState}
 use Rattle.rules.specs.declared.state.Given.{Given}
 use Rattle.rules.specs.declared.state.State.{State}
 use Rattle.rules.specs.Alarm.{finding_of, view_of}
+use Rattle.rules.specs.Codes.{number_of}
 use Rattle.rules.specs.Event.{check_of}
 use Rattle.rules.specs.History.{Facts, entry_of}
 use Rattle.rules.specs.Judged.{CheckedNumbers, ChecksFirst, LinesRead, Regular, ResponseClears, ShownMeans, SixExactly, StatusReadClears}
@@ -75,7 +77,7 @@ checked_numbers = (λ e. refl, λ code. refl)
 
 pub lines_read : LinesRead
 lines_read s n =
-    (answer_has (λ (x : Answer). x.alert ≡ pin_line x.state) s (λ code small. refl) n (λ e is taken. refl), answer_has (λ (x : Answer). x.therm ≡ therm_line x.state) s (λ code small. refl) n (λ e is taken. refl))
+    (answer_has (λ (x : Answer). x.alert ≡ pin_line x.state) s (λ code. refl) n (λ e is taken. refl), answer_has (λ (x : Answer). x.therm ≡ therm_line x.state) s (λ code. refl) n (λ e is taken. refl))
 
 pub shown_means : ShownMeans
 shown_means m =
@@ -117,7 +119,7 @@ zeros =
 pub zeros_after_code_2 : ZerosAfterCode2
 zeros_after_code_2 (pos n) h = by (is_address n) h
   where
-    by : (t : Bool) → (cond t (made_at n) no_state).code ≡ 2 → Zeros (cond t (made_at n) no_state).state
-    by true h = absurd (omega (arith, h))
+    by : (t : Bool) → (cond t (made_at n) no_state).code ≡ BadField → Zeros (cond t (made_at n) no_state).state
+    by true h = absurd (omega (arith, ap number_of h))
     by false h = zeros
 zeros_after_code_2 (negsuc n) h = zeros

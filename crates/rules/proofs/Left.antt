@@ -4,7 +4,7 @@ use mathlib.Core.Path.{◌≡◌, refl, sym, subst, ap, ◌∙◌}
 use mathlib.Core.Bool.{Bool, true, false, cond, ◌&&◌, ◌||◌, and-true, or_comm, or-false}
 use lib.Dec.{eqb}
 use borrow.Author.Tests.{eq-eqb}
-use Rattle.rules.specs.declared.event.Checked.TheVariants.{Good}
+use Rattle.std.specs.Prelude.{Ok}
 use Rattle.rules.specs.declared.event.Event.{Event}
 use Rattle.rules.specs.declared.event.Event.TheVariants.{Send, Write, Read, Receive, Respond, Start}
 use Rattle.rules.specs.declared.event.Numbers.{Numbers}
@@ -28,7 +28,7 @@ use Rattle.rules.proofs.Steps.{Steps, by_finding, entry, outcome_fault, steps}
 use Rattle.rules.proofs.WellFormed.{well}
 
 -- what holds of the state that a form leaves holds of the step's
-taken : (P : State → Type 0) (s : State) → well_formed s ≡ true → (e : Numbers) (k : Event) → check_of e ≡ Good k → P (apply_of s k).state → P (step_of s e).state
+taken : (P : State → Type 0) (s : State) → well_formed s ≡ true → (e : Numbers) (k : Event) → check_of e ≡ Ok k → P (apply_of s k).state → P (step_of s e).state
 unfolding step_of
 taken P s w e k is h = rw (w, is) h
 
@@ -88,7 +88,7 @@ write_leaves n b s w e is = taken (λ left. LeftBy n (compared_by s n) false s l
 
     g : Steps s (entry (write_facts (view_of s) (compares_at n && in_standby (view_of s))) (written_view (view_of s) n b) 0) t
     g = subst (λ (m : Bool). Steps s (entry (write_facts (view_of s) (m && compares_at n && in_standby (view_of s))) (cond m (written_view (view_of s) n b) (view_of s)) 0) t)
-        (mine s) (steps s (well s w) (Good (Write s.address n b)) 0 refl)
+        (mine s) (steps s (well s w) (Ok (Write s.address n b)) 0 refl)
 
     h : Steps s (entry (facts false false (compared_by s n) no_check false false) (view_of t) 0) t
     h = own s t (compared_by s n) false false (written_view (view_of s) n b) g (λ ch. refl) (λ ch. refl)
@@ -115,7 +115,7 @@ read_leaves n s w e is =
 
     g : Steps s (entry (read_facts (eqb n 0x02)) (pointed (view_of s) n) 0) t
     g = subst (λ (m : Bool). Steps s (entry (read_facts (m && eqb n 0x02)) (cond m (pointed (view_of s) n) (view_of s)) 0) t) (mine s)
-        (steps s (well s w) (Good (Read s.address n)) 0 refl)
+        (steps s (well s w) (Ok (Read s.address n)) 0 refl)
 
 pub receive_leaves : ReceiveLeaves
 receive_leaves s w e is =
@@ -127,7 +127,7 @@ receive_leaves s w e is =
 
     g : Steps s (entry (read_facts (eqb s.pointer 0x02)) (view_of s) 0) t
     g = subst (λ (m : Bool). Steps s (entry (read_facts (m && eqb s.pointer 0x02)) (view_of s) 0) t) (mine s)
-        (steps s (well s w) (Good (Receive s.address)) 0 refl)
+        (steps s (well s w) (Ok (Receive s.address)) 0 refl)
 
 pub send_leaves : SendLeaves
 send_leaves n s w e is =
@@ -139,12 +139,12 @@ send_leaves n s w e is =
 
     g : Steps s (entry no_facts (pointed (view_of s) n) 0) t
     g = subst (λ (m : Bool). Steps s (entry no_facts (cond m (pointed (view_of s) n) (view_of s)) 0) t) (mine s)
-        (steps s (well s w) (Good (Send s.address n)) 0 refl)
+        (steps s (well s w) (Ok (Send s.address n)) 0 refl)
 
 pub start_leaves : StartLeaves
 start_leaves s w e is =
     taken (λ left. LeftBy s.pointer nothing false s left × (left.latch ≡ s.latch) × Unwritten s left) s w e Start is
-    (quiet s (apply_of s Start).state false (started_view (view_of s)) (steps s (well s w) (Good Start) 0 refl) refl (λ ch. refl) (λ ch. refl))
+    (quiet s (apply_of s Start).state false (started_view (view_of s)) (steps s (well s w) (Ok Start) 0 refl) refl (λ ch. refl) (λ ch. refl))
 
 pub respond_leaves : RespondLeaves
 respond_leaves s w e is =
@@ -155,4 +155,4 @@ respond_leaves s w e is =
     t = (apply_of s Respond).state
 
     g : Steps s (entry ask_facts (view_of s) 0) t
-    g = steps s (well s w) (Good Respond) 0 refl
+    g = steps s (well s w) (Ok Respond) 0 refl

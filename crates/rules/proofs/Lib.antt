@@ -1,9 +1,10 @@
--- What is shown of the rules, and one law on numbers for the crates above.
+-- What is shown of the rules.
 pub mod Alarm
 pub mod Answered
 pub mod Answers
 pub mod Assured
 pub mod Choice
+pub mod Codes
 pub mod Commands
 pub mod Ended
 pub mod Forms
@@ -11,7 +12,6 @@ pub mod Judged
 pub mod Kept
 pub mod Left
 pub mod Lists
-pub mod Match
 pub mod Meant
 pub mod NeverSix
 pub mod Rows

@@ -2,7 +2,7 @@
 -- Assumes nothing.
 use Prim.Native.Nat.{ℕ}
 use native.Mathlib.Omega.{arith}
-use mathlib.Core.Path.{◌≡◌, refl, sym}
+use mathlib.Core.Path.{◌≡◌, refl}
 use mathlib.Core.Bool.{Bool, true, false, cond, ◌&&◌, not}
 use mathlib.Core.List.{List, [], ◌∷◌, map}
 use lib.Dec.{eqb}
@@ -30,10 +30,6 @@ both false b p q = p
 pub not-true : (b : Bool) → not b ≡ true → b ≡ false
 not-true true e = no e
 not-true false e = refl
-
-pub not-false : (b : Bool) → not b ≡ false → b ≡ true
-not-false true e = refl
-not-false false e = no (sym e)
 
 -- what holds of each element
 abbrev pub Each : {A : Type 0} → (A → Type 0) → List A → Type 0

@@ -4,8 +4,8 @@ use Prim.Native.Nat.{ℕ}
 use mathlib.Core.Path.{◌≡◌, refl, sym, subst, ap, ◌∙◌}
 use mathlib.Core.Bool.{Bool, true, false, cond, ◌&&◌, ◌||◌, not, and_assoc, and-true, not-and_self, or_comm, or-false}
 use lib.Dec.{eqb, leb}
-use Rattle.rules.specs.declared.event.Checked.{Checked}
-use Rattle.rules.specs.declared.event.Checked.TheVariants.{Good, Bad}
+use Rattle.std.specs.Prelude.{Ok, Err}
+use Rattle.rules.specs.declared.answer.Code.TheVariants.{Done, Unheard, NoStart, NoEnd}
 use Rattle.rules.specs.declared.event.Event.TheVariants.{Reset, Send, Write, Read, Receive, Respond, Start, End}
 use Rattle.rules.specs.declared.event.Samples.{Samples}
 use Rattle.rules.specs.declared.register.Channel.{Channel}
@@ -27,6 +27,7 @@ use Rattle.rules.specs.Comparisons.{Comparator, above_of, below_of, compared_of,
 use Rattle.rules.specs.Comparisons.Comparator.{Therm, Therm2}
 use Rattle.rules.specs.Configuration.{chooses_therm2, masked, standby}
 use Rattle.rules.specs.Conversion.{code_for, converted, converted_of, taken_of}
+use Rattle.rules.specs.Event.{Checked}
 use Rattle.rules.specs.History.{did_of, Entry, Facts, Finding, View, ask_facts, bytes_after, compares_at, end_facts, entry_of, found_if, measured_view, no_facts, outcome, pointed, powered, read_facts, running_after, started_view, write_facts, written_view}
 use Rattle.rules.specs.History.Finding.{MadeNone, FoundNothing, FoundFault}
 use Rattle.rules.specs.Hot.{hot_after}
@@ -359,11 +360,11 @@ module _ (s : State) (w : Well s) (t : Samples) where
       became s (end_facts true t) (measured_view (view_of s) t) 0 rest (stored_of s) made looks_made
       (made_mark, ap (runs_of s.runs) (each_same (λ ch. compared_in t ch && fault_of (made ch)) (limit_found ends) made_fault), made_latch, made_tripped)
 
-  end_steps : Steps s (entry_of (view_of s) (Good (End t)) 0) (apply_of s (End t)).state
+  end_steps : Steps s (entry_of (view_of s) (Ok (End t)) 0) (apply_of s (End t)).state
   unfolding apply_of end_of
   end_steps = by s.busy
     where
-      by : (b : Bool) → Steps s (entry (end_facts b t) (cond b (measured_view (view_of s) t) (view_of s)) 0) (cond b (done (silent (converted s t))) (refused 5 s)).state
+      by : (b : Bool) → Steps s (entry (end_facts b t) (cond b (measured_view (view_of s) t) (view_of s)) 0) (cond b (done (silent (converted s t))) (refused NoEnd s)).state
       by true = converted_steps
       by false = idle s 0
 
@@ -461,7 +462,7 @@ target_steps s n b OneShot shot into =
 target_steps s n b Nowhere shot into =
     compared s n b Nowhere into s.busy (rw (← shot, not-and_self (standby s.config))) false
 
-write_steps : (s : State) (a n b : ℕ) → Steps s (entry_of (view_of s) (Good (Write a n b)) 0) (apply_of s (Write a n b)).state
+write_steps : (s : State) (a n b : ℕ) → Steps s (entry_of (view_of s) (Ok (Write a n b)) 0) (apply_of s (Write a n b)).state
 unfolding apply_of written
 write_steps s a n b = by (eqb a s.address)
   where
@@ -470,19 +471,19 @@ write_steps s a n b = by (eqb a s.address)
         subst (λ (w : Bool). Writes s n b (w && standby s.config) (written_to (with_pointer s n) (target_of n) b)) (compare_named n)
         (target_steps s n b (target_of n) (shot_named n) (λ r. register_named r n))
 
-    by : (m : Bool) → Steps s (entry (write_facts (view_of s) (m && compares_at n && standby s.config)) (cond m (written_view (view_of s) n b) (view_of s)) 0) (cond m (done (silent (written s n b))) (refused 3 s)).state
+    by : (m : Bool) → Steps s (entry (write_facts (view_of s) (m && compares_at n && standby s.config)) (cond m (written_view (view_of s) n b) (view_of s)) 0) (cond m (done (silent (written s n b))) (refused Unheard s)).state
     by true = done_steps
     by false = idle s 0
 
 -- ---- The other forms ----
 
-read_steps : (s : State) (m : Bool) (p : Rest) → p.runs ≡ s.runs → p.latch ≡ s.latch → (v : View) → view_from (given_of s) p (stored_of s) (channel_at s) ≡ v → (reply : ℕ) → Steps s (entry (read_facts (m && eqb p.pointer 0x02)) (cond m v (view_of s)) reply) (cond m (done (read_at_pointer (with_rest s p))) (refused 3 s)).state
+read_steps : (s : State) (m : Bool) (p : Rest) → p.runs ≡ s.runs → p.latch ≡ s.latch → (v : View) → view_from (given_of s) p (stored_of s) (channel_at s) ≡ v → (reply : ℕ) → Steps s (entry (read_facts (m && eqb p.pointer 0x02)) (cond m v (view_of s)) reply) (cond m (done (read_at_pointer (with_rest s p))) (refused Unheard s)).state
 unfolding read_at_pointer
 read_steps s true p n l v is reply =
     subst (λ (b : Bool). Steps s (entry (read_facts b) v reply) (after_read (with_rest s p) (source_of p.pointer))) (status_named p.pointer) (at_source s p n l v is reply (source_of p.pointer))
 read_steps s false p n l v is reply = idle s reply
 
-receive_steps : (s : State) (m : Bool) (reply : ℕ) → Steps s (entry (read_facts (m && eqb s.pointer 0x02)) (view_of s) reply) (cond m (done (read_at_pointer s)) (refused 3 s)).state
+receive_steps : (s : State) (m : Bool) (reply : ℕ) → Steps s (entry (read_facts (m && eqb s.pointer 0x02)) (view_of s) reply) (cond m (done (read_at_pointer s)) (refused Unheard s)).state
 receive_steps s true reply = read_steps s true (rest_of s) refl refl (view_of s) refl reply
 receive_steps s false reply = read_steps s false (rest_of s) refl refl (view_of s) refl reply
 
@@ -515,7 +516,7 @@ respond_steps s reply = by (alert_low s) refl
           therms = λ ch k. ap (λ (x : Channel → ChannelState). tripped (x ch) k) (channels_back (given_of s) p (stored_of s) (channel_at s));
         }
 
-    by : (t : Bool) → alert_low s ≡ t → Steps s (entry ask_facts (view_of s) reply) (cond t (answer_of 0 (response_of s.address) (responded s)) (refused 3 s)).state
+    by : (t : Bool) → alert_low s ≡ t → Steps s (entry ask_facts (view_of s) reply) (cond t (answer_of Done (response_of s.address) (responded s)) (refused Unheard s)).state
     by true e = at _ refl refl refl (let is : s.latch && free ≡ true = sym low ∙ e in rw (is, ← (answered (any_flag s))))
     by false e = at (rest_of s) refl refl refl (let is : s.latch && free ≡ false = sym low ∙ e in rw is (sym (and-true s.latch)))
 
@@ -527,12 +528,12 @@ start_steps s = by (standby s.config) s.busy refl refl
     at b e = moved s (started_view (view_of s)) 0 _ refl refl
         (λ i. record { address = s.address; pointer = s.pointer; running = e i; registers = stored_of s; converted = λ ch. (channel_at s ch).converted; value = λ ch. (channel_at s ch).value })
 
-    by : (x y : Bool) → standby s.config ≡ x → s.busy ≡ y → Steps s (entry no_facts (started_view (view_of s)) 0) (cond (x || y) (refused 4 s) (done (silent (with_busy s true)))).state
+    by : (x y : Bool) → standby s.config ≡ x → s.busy ≡ y → Steps s (entry no_facts (started_view (view_of s)) 0) (cond (x || y) (refused NoStart s) (done (silent (with_busy s true)))).state
     by true y e g = at s.busy (rw e (sym (or-false s.busy)))
     by false true e g = at s.busy (rw g)
     by false false e g = at true (rw (e, g))
 
-send_steps : (s : State) (n : ℕ) (m : Bool) → Steps s (entry no_facts (cond m (pointed (view_of s) n) (view_of s)) 0) (cond m (done (silent (with_pointer s n))) (refused 3 s)).state
+send_steps : (s : State) (n : ℕ) (m : Bool) → Steps s (entry no_facts (cond m (pointed (view_of s) n) (view_of s)) 0) (cond m (done (silent (with_pointer s n))) (refused Unheard s)).state
 send_steps s n true = moved s (pointed (view_of s) n) 0 _ refl refl refl
 send_steps s n false = idle s 0
 
@@ -548,15 +549,15 @@ any_reply {s} {t} {x} g reply = record { seen = g.seen; mark = mark; runs = g.ru
 -- every event but a reset
 pub steps : (s : State) → Well s → (k : Checked) (reply : ℕ) → (did_of (view_of s) k).reset ≡ false → Steps s (entry_of (view_of s) k reply) (checked_of s k).state
 unfolding apply_of
-steps s w (Good Reset) reply e = no (sym e)
-steps s w (Good (Send a n)) reply e = any_reply (send_steps s n (eqb a s.address)) reply
-steps s w (Good (Write a n b)) reply e = any_reply (write_steps s a n b) reply
-steps s w (Good (Read a n)) reply e = read_steps s (eqb a s.address) _ refl refl _ refl reply
-steps s w (Good (Receive a)) reply e = receive_steps s (eqb a s.address) reply
-steps s w (Good Respond) reply e = respond_steps s reply
-steps s w (Good Start) reply e = any_reply (start_steps s) reply
-steps s w (Good (End t)) reply e = any_reply (end_steps s w t) reply
-steps s w (Bad code) reply e = idle s reply
+steps s w (Ok Reset) reply e = no (sym e)
+steps s w (Ok (Send a n)) reply e = any_reply (send_steps s n (eqb a s.address)) reply
+steps s w (Ok (Write a n b)) reply e = any_reply (write_steps s a n b) reply
+steps s w (Ok (Read a n)) reply e = read_steps s (eqb a s.address) _ refl refl _ refl reply
+steps s w (Ok (Receive a)) reply e = receive_steps s (eqb a s.address) reply
+steps s w (Ok Respond) reply e = respond_steps s reply
+steps s w (Ok Start) reply e = any_reply (start_steps s) reply
+steps s w (Ok (End t)) reply e = any_reply (end_steps s w t) reply
+steps s w (Err code) reply e = idle s reply
 
 -- a power-on
 pub power_view : (g : Given) → view_of (power_on g) ≡ powered g.address

@@ -2,6 +2,7 @@
 use mathlib.Core.Path.{◌≡◌, refl, sym, subst, ap, ◌∙◌}
 use mathlib.Core.Bool.{Bool, true, not}
 use Rattle.rules.specs.declared.answer.Answer.{Answer}
+use Rattle.rules.specs.declared.answer.Code.TheVariants.{Done}
 use Rattle.rules.specs.declared.event.Numbers.{Numbers}
 use Rattle.rules.specs.declared.register.Channel.{Channel}
 use Rattle.rules.specs.declared.state.State.{State}
@@ -27,7 +28,7 @@ use Rattle.rules.proofs.WellFormed.{fresh_well_formed}
 -- an answer's line is its state's
 answer_therm : (s : State) (n : Numbers) → (step_of s n).therm ≡ therm_line (step_of s n).state
 answer_therm s n =
-    answer_has (λ (x : Answer). x.therm ≡ therm_line x.state) s (λ code small. refl) n (λ e is taken. refl)
+    answer_has (λ (x : Answer). x.therm ≡ therm_line x.state) s (λ code. refl) n (λ e is taken. refl)
 
 line : (s : State) (h : History) → Agrees s h → therm_line s ≡ not (any_channel (λ ch. hot Therm ch h))
 line s h g = ap (λ (p : Channel → Bool). not (any_channel p)) (λ i ch. g.hots ch Therm i)
@@ -46,4 +47,4 @@ shown s h w g =
 
 pub therm_follows : ThermFollows
 therm_follows address made es =
-    shown (state_of address es) (history_of address es) (after_well es (answer_of 0 0 (made_of address).state) (fresh_well_formed address made)) (agrees address made es)
+    shown (state_of address es) (history_of address es) (after_well es (answer_of Done 0 (made_of address).state) (fresh_well_formed address made)) (agrees address made es)

@@ -2,7 +2,7 @@
 use Prim.Native.Nat.{ℕ, ◌+◌, ◌≤◌, ◌<◌}
 use native.Mathlib.Omega.{arith}
 use native.Mathlib.Nat.{le_trans}
-use mathlib.Core.Path.{◌≡◌, refl, sym, subst}
+use mathlib.Core.Path.{◌≡◌, refl, sym, subst, ap}
 use mathlib.Core.Bool.{Bool, true, false, cond, ◌&&◌, ◌||◌, not, or-true}
 use mathlib.Core.List.{map}
 use lib.Dec.{leb, ltb, eqb}
@@ -10,6 +10,7 @@ use lib.IntN.{ℤ, ◌+ℤ◌}
 use lib.IntN.ℤ.{pos, negsuc}
 use borrow.Author.Tests.{ltb-true, le-leb, eq-eqb}
 use Rattle.rules.specs.declared.answer.Answer.{Answer}
+use Rattle.rules.specs.declared.answer.Code.TheVariants.{Done}
 use Rattle.rules.specs.declared.event.Event.{Event}
 use Rattle.rules.specs.declared.event.Event.TheVariants.{Reset, Send, Write, Read, Receive, Respond, Start, End}
 use Rattle.rules.specs.declared.event.Samples.{Samples}
@@ -27,6 +28,7 @@ use Rattle.rules.specs.declared.state.Limits.{Limits}
 use Rattle.rules.specs.declared.state.Mark.{Mark}
 use Rattle.rules.specs.declared.state.State.{State}
 use Rattle.rules.specs.Channels.{all, broken_at, byte_of, channels, compared_in, fine_of, sample_at, scale_of, traits}
+use Rattle.rules.specs.Codes.{number_of}
 use Rattle.rules.specs.Commands.{source_of, target_of}
 use Rattle.rules.specs.Comparisons.{compared_of, limits_of, recompared_of}
 use Rattle.rules.specs.Configuration.{extended, standby}
@@ -286,12 +288,12 @@ done_well s (End t) w = converted_well s t w
 
 pub steps_well_formed : StepsWellFormed
 steps_well_formed s n h =
-    unwell _ (answer_has (λ (x : Answer). Well x.state) s (λ code small. well s h) n (λ e is taken. done_well s e (well s h)))
+    unwell _ (answer_has (λ (x : Answer). Well x.state) s (λ code. well s h) n (λ e is taken. done_well s e (well s h)))
 
 pub fresh_well_formed : FreshWellFormed
 fresh_well_formed (pos a) h = by (is_address a) refl h
   where
-    by : (t : Bool) → is_address a ≡ t → (cond t (made_at a) no_state).code ≡ 0 → well_formed (cond t (made_at a) no_state).state ≡ true
+    by : (t : Bool) → is_address a ≡ t → (cond t (made_at a) no_state).code ≡ Done → well_formed (cond t (made_at a) no_state).state ≡ true
     by true e h = unwell (power_on (record { address = a })) (power_well (record { address = a }) e)
-    by false e h = absurd (omega (arith, h))
-fresh_well_formed (negsuc n) h = absurd (omega (arith, h))
+    by false e h = absurd (omega (arith, ap number_of h))
+fresh_well_formed (negsuc n) h = absurd (omega (arith, ap number_of h))

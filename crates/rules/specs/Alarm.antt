@@ -1,8 +1,8 @@
 -- No alarm is lost and none invented, in any sequence of events from the latest power-on: the flags, their spells and the latch by the
 -- history of History.antt, and the demand. The proof is in proofs/Alarm.antt. Assumes nothing.
-use Rattle.std.specs.Prelude.{ℕ, ◌+◌, ◌≡◌, Bool, cond, not, ◌||◌, ◌&&◌, true, false, List, [], ◌∷◌, map, leb, ℤ}
+use Rattle.std.specs.Prelude.{ℕ, ◌+◌, ◌≡◌, Bool, cond, not, ◌||◌, ◌&&◌, true, false, List, [], ◌∷◌, map, leb, ℤ, Ok}
 use Rattle.std.proofs.Math.IntN.ℤ.{pos}
-use Rattle.rules.specs.declared.event.Checked.TheVariants.{Good}
+use Rattle.rules.specs.declared.answer.Code.TheVariants.{Done, Unheard}
 use Rattle.rules.specs.declared.event.Event.TheVariants.{Reset}
 use Rattle.rules.specs.declared.event.Numbers.{Numbers}
 use Rattle.rules.specs.declared.register.Channel.{Channel}
@@ -168,9 +168,9 @@ next s h e = with_event s.address h e (step_of s e).reply
 -- and what the bus is shown of it
 pub record Shows (s : State) (h : History) : Type 0 where
   -- a status read is done, and its reply has each flag as the history has it
-  pub reads : (e : Numbers) → reads_next s h e ≡ true → ((step_of s e).code ≡ 0) × ((f : Flag) → bit (place_of f) (step_of s e).reply ≡ stands f h)
-  -- an alert response is answered exactly where the history has ALERT low, so never in the THERM2 role; otherwise its code is 3
-  pub responses : (step_of s respond).code ≡ cond (latched h && line_free (now s.address h)) 0 3
+  pub reads : (e : Numbers) → reads_next s h e ≡ true → ((step_of s e).code ≡ Done) × ((f : Flag) → bit (place_of f) (step_of s e).reply ≡ stands f h)
+  -- an alert response is answered exactly where the history has ALERT low, so never in the THERM2 role; otherwise its code is 3, unheard
+  pub responses : (step_of s respond).code ≡ cond (latched h && line_free (now s.address h)) Done Unheard
   -- pin 6, the line that every answer reports, 1 being high. In the ALERT role: 01, "ALERT is low exactly if the latch is set and configuration
   -- bits 7 and 5 are 0"
   pub pin_alert : (e : Numbers) → in_therm2 (now s.address (next s h e)) ≡ false → (step_of s e).alert ≡ not (latched (next s h e) && line_free (now s.address (next s h e)))
@@ -190,7 +190,7 @@ abbrev pub history_of : ℤ → List Numbers → History
 history_of address es = history_from (made_of address).state.address [] (made_of address).state es
 
 abbrev pub Always : (State → History → Type 0) → Type 0
-Always P = (address : ℤ) → (made_of address).code ≡ 0 → (es : List Numbers) → P (state_of address es) (history_of address es)
+Always P = (address : ℤ) → (made_of address).code ≡ Done → (es : List Numbers) → P (state_of address es) (history_of address es)
 
 abbrev pub NoAlarmLost : Type 0
 NoAlarmLost = Always (λ s h. Demand s h × Shows s h)
@@ -198,6 +198,6 @@ NoAlarmLost = Always (λ s h. Demand s h × Shows s h)
 -- "from the latest power-on": from any well-formed state a reset leaves a chip that was just powered on, and begins a history anew
 abbrev pub ResetBeginsAnew : Type 0
 ResetBeginsAnew =
-    (s : State) → well_formed s ≡ true → (h : History) (e : Numbers) → check_of e ≡ Good Reset
-    → ((made_of (pos s.address)).code ≡ 0) × ((step_of s e).state ≡ (made_of (pos s.address)).state)
+    (s : State) → well_formed s ≡ true → (h : History) (e : Numbers) → check_of e ≡ Ok Reset
+    → ((made_of (pos s.address)).code ≡ Done) × ((step_of s e).state ≡ (made_of (pos s.address)).state)
     × (with_event s.address h e (step_of s e).reply ≡ [])

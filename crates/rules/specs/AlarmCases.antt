@@ -1,8 +1,7 @@
 -- The premises of the claims in Alarm.antt, Assured.antt, Kept.antt and Ended.antt are met, and what the history counts, in cases worked out by hand:
 -- a claim whose premises nothing meets says nothing. Proved in proofs/Tables.antt. Assumes nothing.
-use Rattle.std.specs.Prelude.{ℕ, ◌≡◌, Bool, not, true, false, List, [], ◌∷◌, ◌++◌, map, eqb}
+use Rattle.std.specs.Prelude.{ℕ, ◌≡◌, Bool, not, true, false, List, [], ◌∷◌, ◌++◌, map, eqb, Ok}
 use Rattle.std.proofs.Math.IntN.ℤ.{pos}
-use Rattle.rules.specs.declared.event.Checked.TheVariants.{Good}
 use Rattle.rules.specs.declared.event.Event.TheVariants.{End, Reset, Write}
 use Rattle.rules.specs.declared.event.Numbers.{Numbers}
 use Rattle.rules.specs.declared.register.Channel.TheVariants.{Local, Remote}
@@ -11,6 +10,7 @@ use Rattle.rules.specs.declared.state.State.{State}
 use Rattle.rules.specs.Alarm.{count, history_of, in_arow, in_therm2, line_free, clearing_reads_that_showed, spells_opened, stands, state_of, next, reads_next}
 use Rattle.rules.specs.Assured.{beyond, finds_now, next_all, sets_now, uncleared, unread}
 use Rattle.rules.specs.Channels.{any}
+use Rattle.rules.specs.Codes.{is_done, number_of}
 use Rattle.rules.specs.Comparisons.Comparator.{Therm, Therm2}
 use Rattle.rules.specs.Event.{check_of}
 use Rattle.rules.specs.History.{History, compares_at, in_standby, now}
@@ -91,7 +91,7 @@ running = state_of (pos 76) (start ∷ [])
 
 unfoldable pub met : List Bool
 met =
-    eqb (made_of (pos 76)).code 0 ∷ eqb (made_of (pos 77)).code 0 ∷ well_formed (made_of (pos 76)).state
+    is_done (made_of (pos 76)).code ∷ is_done (made_of (pos 77)).code ∷ well_formed (made_of (pos 76)).state
     ∷ well_formed (made_of (pos 77)).state ∷ not (well_formed (made_of (pos 78)).state)
     ∷ finds_now remote_high history_now ∷ sets_now history_now
     ∷ unread state_now history_now later ∷ uncleared state_now history_now later
@@ -101,7 +101,7 @@ met =
     ∷ beyond (now 76 history_now) Remote Above ∷ not (stands open_flag history)
     ∷ not (unread state_now history_now (status ∷ [])) ∷ not (unread state_now history_now (reset ∷ []))
     ∷ not (uncleared state_now history_now acknowledged) ∷ not (uncleared state_now history_now (reset ∷ []))
-    ∷ eqb (step_of state_now start).code 4 ∷ running.busy ∷ well_formed running ∷ (now 76 (history_of (pos 76) (start ∷ []))).running
+    ∷ eqb (number_of (step_of state_now start).code) 4 ∷ running.busy ∷ well_formed running ∷ (now 76 (history_of (pos 76) (start ∷ []))).running
     ∷ (now 76 (history_of (pos 76) pulled)).converted Remote ∷ not ((now 76 (history_of (pos 76) never)).converted Remote)
     ∷ finds_now remote_high fanned_now ∷ in_therm2 (now 76 fanned_now) ∷ not (in_therm2 (now 76 history_now)) ∷ []
 
@@ -110,8 +110,8 @@ PremisesMet = any (map not met) ≡ false
 
 abbrev pub FormsMet : Type 0
 FormsMet =
-    (check_of lowered ≡ Good (Write 76 0x0d 40)) × (check_of reset ≡ Good Reset)
-    × (check_of (end (pos 30) (pos 200) 1) ≡ Good (End (record { local = pos 30; remote = pos 200; broken = true })))
+    (check_of lowered ≡ Ok (Write 76 0x0d 40)) × (check_of reset ≡ Ok Reset)
+    × (check_of (end (pos 30) (pos 200) 1) ≡ Ok (End (record { local = pos 30; remote = pos 200; broken = true })))
 
 -- two conversions above the limit with one below it and a status read between: two spells, one read that closed one, one fault in a row;
 -- the values seen are the codes of the samples, and the limit the byte last written

@@ -1,7 +1,8 @@
 -- The code and the reply of every event, by what is seen of the chip and its latch; and what a read of each address finds. In other words
 -- than the step's, whose errors are refused here. The proofs are in proofs/Answered.antt. Assumes nothing.
-use Rattle.std.specs.Prelude.{ℕ, ◌+◌, ◌*◌, ◌/◌, ◌≡◌, Bool, cond, ◌||◌, ◌&&◌, true, false, List, [], ◌∷◌, map, eqb}
-use Rattle.rules.specs.declared.event.Checked.TheVariants.{Good}
+use Rattle.std.specs.Prelude.{ℕ, ◌+◌, ◌*◌, ◌/◌, ◌≡◌, Bool, cond, ◌||◌, ◌&&◌, true, false, List, [], ◌∷◌, map, eqb, Ok}
+use Rattle.rules.specs.declared.answer.Code.{Code}
+use Rattle.rules.specs.declared.answer.Code.TheVariants.{Done, Unheard, NoStart, NoEnd}
 use Rattle.rules.specs.declared.event.Event.{Event}
 use Rattle.rules.specs.declared.event.Event.TheVariants.{Reset, Send, Write, Read, Receive, Respond, Start, End}
 use Rattle.rules.specs.declared.event.Numbers.{Numbers}
@@ -24,19 +25,19 @@ use Rattle.rules.specs.WellFormed.{well_formed}
 
 -- 3, "kinds 1 to 4 with an address other than the chip's; kind 5 while ALERT is high"; 4, "kind 6 in standby, or while a conversion runs";
 -- 5, "kind 7 while no conversion runs"
-abbrev pub code_by : View → Bool → Event → ℕ
-code_by v latch Reset = 0
-code_by v latch (Send a n) = cond (eqb a v.address) 0 3
-code_by v latch (Write a n b) = cond (eqb a v.address) 0 3
-code_by v latch (Read a n) = cond (eqb a v.address) 0 3
-code_by v latch (Receive a) = cond (eqb a v.address) 0 3
-code_by v latch Respond = cond (latch && line_free v) 0 3
-code_by v latch Start = cond (in_standby v || v.running) 4 0
-code_by v latch (End t) = cond v.running 0 5
+abbrev pub code_by : View → Bool → Event → Code
+code_by v latch Reset = Done
+code_by v latch (Send a n) = cond (eqb a v.address) Done Unheard
+code_by v latch (Write a n b) = cond (eqb a v.address) Done Unheard
+code_by v latch (Read a n) = cond (eqb a v.address) Done Unheard
+code_by v latch (Receive a) = cond (eqb a v.address) Done Unheard
+code_by v latch Respond = cond (latch && line_free v) Done Unheard
+code_by v latch Start = cond (in_standby v || v.running) NoStart Done
+code_by v latch (End t) = cond v.running Done NoEnd
 
 abbrev pub CodesGiven : Type 0
 CodesGiven =
-    (s : State) → well_formed s ≡ true → (n : Numbers) (e : Event) → check_of n ≡ Good e → (step_of s n).code ≡ code_by (view_of s) s.latch e
+    (s : State) → well_formed s ≡ true → (n : Numbers) (e : Event) → check_of n ≡ Ok e → (step_of s n).code ≡ code_by (view_of s) s.latch e
 
 -- ---- Replies ----
 
@@ -57,7 +58,7 @@ reply_by s (End t) = 0
 
 abbrev pub RepliesGiven : Type 0
 RepliesGiven =
-    (s : State) → well_formed s ≡ true → (n : Numbers) (e : Event) → check_of n ≡ Good e → (step_of s n).reply ≡ reply_by s e
+    (s : State) → well_formed s ≡ true → (n : Numbers) (e : Event) → check_of n ≡ Ok e → (step_of s n).reply ≡ reply_by s e
 
 -- ---- What a read finds ----
 

@@ -1,8 +1,7 @@
 -- What a firmware lead would look for, from the demand: faults are shown, none is invented, ALERT stays low until it is acknowledged, and
 -- a limit written in standby counts at once. The proofs are in proofs/Assured.antt; that each premise is met, in AlarmCases.antt. Assumes
 -- nothing.
-use Rattle.std.specs.Prelude.{ℕ, ◌≡◌, Bool, not, ◌&&◌, true, false, List, [], ◌∷◌}
-use Rattle.rules.specs.declared.event.Checked.TheVariants.{Good}
+use Rattle.std.specs.Prelude.{ℕ, ◌≡◌, Bool, not, ◌&&◌, true, false, List, [], ◌∷◌, Ok}
 use Rattle.rules.specs.declared.event.Event.TheVariants.{Write}
 use Rattle.rules.specs.declared.event.Numbers.{Numbers}
 use Rattle.rules.specs.declared.register.Channel.{Channel}
@@ -77,7 +76,7 @@ beyond v ch Open = false
 pub record StandbyFault (s : State) (h : History) (e : Numbers) (ch : Channel) (k : Fault) : Type 0 where
   pub command : ℕ
   pub byte : ℕ
-  pub form : check_of e ≡ Good (Write s.address command byte)
+  pub form : check_of e ≡ Ok (Write s.address command byte)
   pub compares : compares_at command ≡ true
   pub standby : in_standby (now s.address h) ≡ true
   pub converted : (now s.address h).converted ch ≡ true

@@ -1,8 +1,7 @@
 -- What the end of a conversion leaves, with the diode closed and, by document 02's item 3, with it open, in other words than the step's
 -- and the history's, which share `Channels.compared_in`: from any well-formed state, and after any history. The proofs are in
 -- proofs/Ended.antt. Assumes nothing.
-use Rattle.std.specs.Prelude.{ℕ, ◌+◌, ◌≡◌, Bool, cond, ◌||◌, true, false, ◌∷◌, ltb, leb}
-use Rattle.rules.specs.declared.event.Checked.TheVariants.{Good}
+use Rattle.std.specs.Prelude.{ℕ, ◌+◌, ◌≡◌, Bool, cond, ◌||◌, true, false, ◌∷◌, ltb, leb, Ok}
 use Rattle.rules.specs.declared.event.Event.TheVariants.{End}
 use Rattle.rules.specs.declared.event.Numbers.{Numbers}
 use Rattle.rules.specs.declared.event.Samples.{Samples}
@@ -94,7 +93,7 @@ pub record Taken (s left : State) (local_code remote_code : ℕ) : Type 0 where
 -- of a running conversion that ends
 abbrev pub Ends : Bool → (State → Samples → State → Type 0) → Type 0
 Ends broken P =
-    (s : State) → well_formed s ≡ true → s.busy ≡ true → (e : Numbers) (t : Samples) → check_of e ≡ Good (End t) → t.broken ≡ broken
+    (s : State) → well_formed s ≡ true → s.busy ≡ true → (e : Numbers) (t : Samples) → check_of e ≡ Ok (End t) → t.broken ≡ broken
     → P s t (step_of s e).state
 
 abbrev pub OpenHolds : Type 0
@@ -129,4 +128,4 @@ pub record Passed (v : View) (h : History) (x : Entry) (code : ℕ) : Type 0 whe
 abbrev pub OpenPasses : Type 0
 OpenPasses =
     (address : ℕ) (h : History) (t : Samples) (reply : ℕ) → (now address h).running ≡ true → t.broken ≡ true
-    → Passed (now address h) h (entry_of (now address h) (Good (End t)) reply) (code_for (now address h).registers Local t.local)
+    → Passed (now address h) h (entry_of (now address h) (Ok (End t)) reply) (code_for (now address h).registers Local t.local)

@@ -1,15 +1,16 @@
 -- Events: "An event is four signed 32-bit numbers: a kind, a, b and c. A field that a kind doesn't use must be 0."
 -- Answer codes: 1, "kind outside 0..7"; 2, "a field out of its range, or an unused field not 0"; 1 is tested before 2.
 -- Assumes nothing.
-use Rattle.std.specs.Prelude.{ℕ, Bool, cond, ◌&&◌, List, [], ◌∷◌, eqb, leb, ℤ}
+use Rattle.std.specs.Prelude.{ℕ, Bool, cond, ◌&&◌, List, [], ◌∷◌, Result, Ok, Err, eqb, leb, ℤ}
 use Rattle.std.proofs.Math.IntN.ℤ.{pos, negsuc}
 use Rattle.std.specs.Int.Signed.{le_z}
+use Rattle.rules.specs.declared.answer.Code.{Code}
+use Rattle.rules.specs.declared.answer.Code.TheVariants.{Done, BadKind, BadField}
 use Rattle.rules.specs.declared.event.Numbers.{Numbers}
 use Rattle.rules.specs.declared.event.Samples.{Samples}
 use Rattle.rules.specs.declared.event.Event.{Event}
 use Rattle.rules.specs.declared.event.Event.TheVariants.{Reset, Send, Write, Read, Receive, Respond, Start, End}
-use Rattle.rules.specs.declared.event.Checked.{Checked}
-use Rattle.rules.specs.declared.event.Checked.TheVariants.{Good, Bad}
+use Rattle.rules.specs.Codes.{number_of}
 use Rattle.rules.specs.Table.{look_up}
 
 -- the number is one of lo..hi
@@ -53,14 +54,18 @@ sample_of x = cond (is_remote_sample x) x (pos 0)
 abbrev pub samples_of : ℤ → ℤ → ℤ → Samples
 samples_of a b c = record { local = sample_of a; remote = sample_of b; broken = eqb (byte_of c) 1 }
 
+-- what checking an event's numbers gives: the event, or the code that refuses them
+abbrev pub Checked : Type 0
+Checked = Result Event Code
+
 -- document 01's number for each case
-abbrev pub checked_code : Checked → ℕ
-checked_code (Good e) = 0
-checked_code (Bad code) = code
+abbrev pub checked_number : Checked → ℕ
+checked_number (Ok e) = number_of Done
+checked_number (Err code) = number_of code
 
 -- the event where its fields are in range, otherwise code 2
 abbrev pub good_if : Bool → Event → Checked
-good_if fields e = cond fields (Good e) (Bad 2)
+good_if fields e = cond fields (Ok e) (Err BadField)
 
 -- the table of kinds
 abbrev pub kinds : ℤ → ℤ → ℤ → List (ℕ × Checked)
@@ -77,8 +82,8 @@ kinds a b c =
 
 -- "kind outside 0..7" is code 1, whatever the fields
 abbrev pub kind_from : ℤ → ℤ → ℤ → ℤ → Checked
-kind_from (pos kind) a b c = look_up kind (kinds a b c) (Bad 1)
-kind_from (negsuc k) a b c = Bad 1
+kind_from (pos kind) a b c = look_up kind (kinds a b c) (Err BadKind)
+kind_from (negsuc k) a b c = Err BadKind
 
 -- the event that the numbers are, or the code that refuses them
 abbrev pub check_of : Numbers → Checked

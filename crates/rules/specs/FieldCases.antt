@@ -5,6 +5,7 @@ use Rattle.std.specs.Prelude.{ℕ, ◌≡◌, Bool, true, List, [], ◌∷◌, m
 use Rattle.std.proofs.Math.IntN.ℤ.{pos, negsuc}
 use Rattle.rules.specs.declared.event.Numbers.{Numbers}
 use Rattle.rules.specs.Channels.{all}
+use Rattle.rules.specs.Codes.{number_of}
 use Rattle.rules.specs.PowerOn.{made_of}
 use Rattle.rules.specs.Step.{after, step_of}
 use Rattle.rules.specs.Trial.{four, start}
@@ -14,7 +15,7 @@ abbrev under : ℤ
 under = negsuc 0
 
 unfoldable pub answered_with : ℕ → List Numbers → Bool
-answered_with code es = all (map (λ e. eqb (step_of (after (made_of (pos 76)).state (start ∷ [])) e).code code) es)
+answered_with n es = all (map (λ e. eqb (number_of (step_of (after (made_of (pos 76)).state (start ∷ [])) e).code) n) es)
 
 -- "kind outside 0..7", whatever the fields
 abbrev kinds : List Numbers

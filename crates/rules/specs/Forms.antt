@@ -1,8 +1,9 @@
 -- An event is what was sent: each form by its numbers, and which numbers are one. In other words than the table of kinds, whose errors are
 -- refused here. The proofs are in proofs/Forms.antt. Assumes nothing.
-use Rattle.std.specs.Prelude.{ℕ, ◌≤◌, ◌<◌, ◌≡◌, cond, leb, ℤ}
+use Rattle.std.specs.Prelude.{ℕ, ◌≤◌, ◌<◌, ◌≡◌, cond, leb, ℤ, Ok, Err}
 use Rattle.std.proofs.Math.IntN.ℤ.{pos, negsuc}
-use Rattle.rules.specs.declared.event.Checked.TheVariants.{Good, Bad}
+use Rattle.rules.specs.declared.answer.Code.{Code}
+use Rattle.rules.specs.declared.answer.Code.TheVariants.{BadKind, BadField}
 use Rattle.rules.specs.declared.event.Event.{Event}
 use Rattle.rules.specs.declared.event.Event.TheVariants.{Reset, Send, Write, Read, Receive, Respond, Start, End}
 use Rattle.rules.specs.declared.event.Numbers.{Numbers}
@@ -39,16 +40,16 @@ InRange (End t) = FromTo 8192 8191 t.local × FromTo 32768 32767 t.remote
 
 -- what is taken for an event is that event, and in range
 abbrev pub TakenAsSent : Type 0
-TakenAsSent = (n : Numbers) (e : Event) → check_of n ≡ Good e → (numbers_of e ≡ n) × InRange e
+TakenAsSent = (n : Numbers) (e : Event) → check_of n ≡ Ok e → (numbers_of e ≡ n) × InRange e
 
 -- and every event in range is taken
 abbrev pub AllTaken : Type 0
-AllTaken = (e : Event) → InRange e → check_of (numbers_of e) ≡ Good e
+AllTaken = (e : Event) → InRange e → check_of (numbers_of e) ≡ Ok e
 
 -- the rest is code 1 where the kind is outside 0..7, otherwise 2
-abbrev pub refusal_for : ℤ → ℕ
-refusal_for (pos kind) = cond (leb kind 7) 2 1
-refusal_for (negsuc k) = 1
+abbrev pub refusal_for : ℤ → Code
+refusal_for (pos kind) = cond (leb kind 7) BadField BadKind
+refusal_for (negsuc k) = BadKind
 
 abbrev pub RefusedByKind : Type 0
-RefusedByKind = (n : Numbers) (code : ℕ) → check_of n ≡ Bad code → code ≡ refusal_for n.kind
+RefusedByKind = (n : Numbers) (code : Code) → check_of n ≡ Err code → code ≡ refusal_for n.kind

@@ -3,9 +3,7 @@
 -- that; what it did that matters to an alarm; the history. (`cond t x y` is x where t holds, otherwise y; `v.pointer` is v's field; `λ ch. ..`
 -- is a function of ch; `x ∷ xs` is a list that begins with x. The eight forms of an event are in src/event.rt.) The definitions that it
 -- shares with the step stand in its `use` lines; each has a claim in other words, which docs/ALARMS.md names. Assumes nothing.
-use Rattle.std.specs.Prelude.{ℕ, Bool, cond, not, ◌||◌, ◌&&◌, true, false, List, [], ◌∷◌, map, eqb}
-use Rattle.rules.specs.declared.event.Checked.{Checked}
-use Rattle.rules.specs.declared.event.Checked.TheVariants.{Good, Bad}
+use Rattle.std.specs.Prelude.{ℕ, Bool, cond, not, ◌||◌, ◌&&◌, true, false, List, [], ◌∷◌, map, eqb, Ok, Err}
 use Rattle.rules.specs.declared.event.Event.{Event}
 use Rattle.rules.specs.declared.event.Event.TheVariants.{Reset, Send, Write, Read, Receive, Respond, Start, End}
 use Rattle.rules.specs.declared.event.Numbers.{Numbers}
@@ -16,7 +14,7 @@ use Rattle.rules.specs.declared.register.Register.TheVariants.{Config}
 use Rattle.rules.specs.Bits.{bit}
 use Rattle.rules.specs.Channels.{any, broken_at, compared_in, sample_at, traits}
 use Rattle.rules.specs.Conversion.{code_for}
-use Rattle.rules.specs.Event.{check_of}
+use Rattle.rules.specs.Event.{Checked, check_of}
 use Rattle.rules.specs.Rows.{row_of, trim_of}
 
 -- ---- What is seen of a chip ----
@@ -172,12 +170,12 @@ pub record Entry : Type 0 where
 
 -- a refused event does nothing
 abbrev pub did_of : View → Checked → Facts
-did_of v (Good e) = facts_of v e
-did_of v (Bad code) = no_facts
+did_of v (Ok e) = facts_of v e
+did_of v (Err code) = no_facts
 
 abbrev pub seen_after : View → Checked → View
-seen_after v (Good e) = view_after v e
-seen_after v (Bad code) = v
+seen_after v (Ok e) = view_after v e
+seen_after v (Err code) = v
 
 abbrev pub entry_of : View → Checked → ℕ → Entry
 entry_of v k reply = record { facts = did_of v k; seen = seen_after v k; reply = reply }

@@ -1,8 +1,8 @@
 -- Answer codes, in other words: exactly which states code 6 refuses, that codes 1 and 2 come in any other before 3, 4 and 5, and that an
 -- answer's lines are those of the state that it gives; and what a status read does to each flag, and an alert response to the latch. The
 -- proofs are in proofs/Judged.antt. Assumes nothing.
-use Rattle.std.specs.Prelude.{ℕ, ◌≤◌, ◌≡◌, ◌&&◌, ◌||◌, false, true, eqb}
-use Rattle.rules.specs.declared.event.Checked.TheVariants.{Good, Bad}
+use Rattle.std.specs.Prelude.{◌≤◌, ◌≡◌, ◌&&◌, ◌||◌, false, true, eqb, Ok, Err}
+use Rattle.rules.specs.declared.answer.Code.{Code}
 use Rattle.rules.specs.declared.event.Event.{Event}
 use Rattle.rules.specs.declared.event.Numbers.{Numbers}
 use Rattle.rules.specs.declared.register.Channel.TheVariants.{Local, Remote}
@@ -10,7 +10,8 @@ use Rattle.rules.specs.declared.register.Register.{Register}
 use Rattle.rules.specs.declared.state.Mark.{Mark}
 use Rattle.rules.specs.declared.state.State.{State}
 use Rattle.rules.specs.Alarm.{view_of}
-use Rattle.rules.specs.Event.{check_of, checked_code}
+use Rattle.rules.specs.Codes.{number_of}
+use Rattle.rules.specs.Event.{check_of, checked_number}
 use Rattle.rules.specs.History.{did_of}
 use Rattle.rules.specs.Lines.{alert_low, pin_line, therm_line}
 use Rattle.rules.specs.Rows.{trim_of}
@@ -37,10 +38,10 @@ SixExactly = (s : State) → (well_formed s ≡ true → Regular s) × (Regular 
 
 -- "Order: 6, 1, 2, then 3, 4 or 5"
 abbrev pub ChecksFirst : Type 0
-ChecksFirst = (s : State) → well_formed s ≡ true → (n : Numbers) (code : ℕ) → check_of n ≡ Bad code → step_of s n ≡ refused code s
+ChecksFirst = (s : State) → well_formed s ≡ true → (n : Numbers) (code : Code) → check_of n ≡ Err code → step_of s n ≡ refused code s
 
 abbrev pub CheckedNumbers : Type 0
-CheckedNumbers = ((e : Event) → checked_code (Good e) ≡ 0) × ((code : ℕ) → checked_code (Bad code) ≡ code)
+CheckedNumbers = ((e : Event) → checked_number (Ok e) ≡ 0) × ((code : Code) → checked_number (Err code) ≡ number_of code)
 
 -- "alert and therm are read from that state", whatever the state and the event: alert is pin 6
 abbrev pub LinesRead : Type 0

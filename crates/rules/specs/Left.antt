@@ -1,7 +1,6 @@
 -- What an event leaves that neither powers the chip on nor ends a conversion, in other words than the step's and the history's: from any
 -- well-formed state, by its form, at the chip's own address. The proofs are in proofs/Left.antt. Assumes nothing.
-use Rattle.std.specs.Prelude.{ℕ, ◌≡◌, Bool, cond, ◌||◌, ◌&&◌, true, false, [], ◌∷◌, map, eqb}
-use Rattle.rules.specs.declared.event.Checked.TheVariants.{Good}
+use Rattle.std.specs.Prelude.{ℕ, ◌≡◌, Bool, cond, ◌||◌, ◌&&◌, true, false, [], ◌∷◌, map, eqb, Ok}
 use Rattle.rules.specs.declared.event.Event.{Event}
 use Rattle.rules.specs.declared.event.Event.TheVariants.{Send, Write, Read, Receive, Respond, Start}
 use Rattle.rules.specs.declared.event.Numbers.{Numbers}
@@ -63,7 +62,7 @@ beyond s left n ch =
 
 -- of an event of this form that is done
 abbrev pub Leaves : (State → Event) → (State → State → Type 0) → Type 0
-Leaves form P = (s : State) → well_formed s ≡ true → (e : Numbers) → check_of e ≡ Good (form s) → P s (step_of s e).state
+Leaves form P = (s : State) → well_formed s ≡ true → (e : Numbers) → check_of e ≡ Ok (form s) → P s (step_of s e).state
 
 -- "by a standby comparison that finds any limit fault"
 abbrev pub WriteLeaves : Type 0

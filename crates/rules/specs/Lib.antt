@@ -1,5 +1,6 @@
 -- Document 01's rules, one idea to a file, in the document's order.
 pub mod Table
+pub mod Codes
 pub mod Event
 pub mod Bits
 pub mod Configuration

@@ -3,6 +3,7 @@
 -- nothing.
 use Rattle.std.specs.Prelude.{ℕ, zero, suc, ◌+◌, ◌*◌, ◌/◌, ◌^◌, ◌≤◌, ◌<◌, ◌≡◌, Bool, true, false, not, ◌&&◌, ◌||◌, List, [], ◌∷◌, map, ℤ, ◌+ℤ◌, ◌-ℤ◌}
 use Rattle.std.proofs.Math.IntN.ℤ.{pos, negsuc}
+use Rattle.rules.specs.declared.answer.Code.TheVariants.{Done, BadField}
 use Rattle.rules.specs.declared.register.Channel.{Channel}
 use Rattle.rules.specs.declared.register.Channel.TheVariants.{Local, Remote}
 use Rattle.rules.specs.declared.register.Register.{Register}
@@ -155,10 +156,10 @@ ComparedMeans =
 
 -- "A fresh state is made for address 76 or 77; any other address is code 2"
 pub record Makes : Type 0 where
-  pub first : ((made_of (pos 76)).code ≡ 0) × ((made_of (pos 76)).state.address ≡ 76)
-  pub second : ((made_of (pos 77)).code ≡ 0) × ((made_of (pos 77)).state.address ≡ 77)
-  pub others : (n : ℕ) → (n ≡ 76 → ⊥) → (n ≡ 77 → ⊥) → (made_of (pos n)).code ≡ 2
-  pub negative : (n : ℕ) → (made_of (negsuc n)).code ≡ 2
+  pub first : ((made_of (pos 76)).code ≡ Done) × ((made_of (pos 76)).state.address ≡ 76)
+  pub second : ((made_of (pos 77)).code ≡ Done) × ((made_of (pos 77)).state.address ≡ 77)
+  pub others : (n : ℕ) → (n ≡ 76 → ⊥) → (n ≡ 77 → ⊥) → (made_of (pos n)).code ≡ BadField
+  pub negative : (n : ℕ) → (made_of (negsuc n)).code ≡ BadField
 
 abbrev pub MadeMeans : Type 0
 MadeMeans = Makes

@@ -6,6 +6,7 @@ use Rattle.rules.specs.declared.state.Given.{Given}
 use Rattle.rules.specs.declared.state.Mark.{Mark}
 use Rattle.rules.specs.declared.state.ChannelState.{ChannelState}
 use Rattle.rules.specs.declared.state.State.{State}
+use Rattle.rules.specs.declared.answer.Code.TheVariants.{Done, BadField}
 use Rattle.rules.specs.declared.answer.Made.{Made}
 use Rattle.rules.specs.Rows.{row_of}
 use Rattle.rules.specs.State.{Rest, state_from}
@@ -36,10 +37,10 @@ abbrev pub is_address : ℕ → Bool
 is_address a = eqb a 76 || eqb a 77
 
 abbrev pub no_state : Made
-no_state = record { code = 2; state = all_zero }
+no_state = record { code = BadField; state = all_zero }
 
 abbrev pub made_at : ℕ → Made
-made_at a = record { code = 0; state = power_on (record { address = a }) }
+made_at a = record { code = Done; state = power_on (record { address = a }) }
 
 abbrev pub made_of : ℤ → Made
 made_of (pos a) = cond (is_address a) (made_at a) no_state

@@ -1,10 +1,8 @@
 -- Registers: what a read finds, and what it leaves. Assumes nothing.
-use Rattle.std.specs.Prelude.{ℕ}
+use Rattle.std.specs.Prelude.{ℕ, Option, Some, None}
 use Rattle.rules.specs.declared.answer.Done.{Done}
 use Rattle.rules.specs.declared.register.Source.{Source}
 use Rattle.rules.specs.declared.register.Source.TheVariants.{Stored, Value, ValueFine, Status, Maker, Revision, Hole}
-use Rattle.rules.specs.declared.register.Reading.{Reading}
-use Rattle.rules.specs.declared.register.Reading.TheVariants.{Byte, Nothing}
 use Rattle.rules.specs.declared.state.State.{State}
 use Rattle.rules.specs.Channels.{scale_of}
 use Rattle.rules.specs.Commands.{source_of}
@@ -12,20 +10,20 @@ use Rattle.rules.specs.State.{channel_at, stored_of}
 use Rattle.rules.specs.Status.{after_status, status_of}
 use Rattle.rules.specs.Values.{high_byte_of, low_byte_of}
 
--- "Read addresses"; "FE reads 41, FF reads 51"
-abbrev pub reading_of : State → Source → Reading
-reading_of s (Stored r) = Byte (stored_of s r)
-reading_of s (Value ch) = Byte (high_byte_of (scale_of ch) (channel_at s ch).value)
-reading_of s (ValueFine ch) = Byte (low_byte_of (scale_of ch) (channel_at s ch).value)
-reading_of s Status = Byte (status_of s)
-reading_of s Maker = Byte 0x41
-reading_of s Revision = Byte 0x51
-reading_of s Hole = Nothing
+-- "Read addresses"; "FE reads 41, FF reads 51": the register's byte, or that there is no register
+abbrev pub reading_of : State → Source → Option ℕ
+reading_of s (Stored r) = Some (stored_of s r)
+reading_of s (Value ch) = Some (high_byte_of (scale_of ch) (channel_at s ch).value)
+reading_of s (ValueFine ch) = Some (low_byte_of (scale_of ch) (channel_at s ch).value)
+reading_of s Status = Some (status_of s)
+reading_of s Maker = Some 0x41
+reading_of s Revision = Some 0x51
+reading_of s Hole = None
 
 -- "House: a read of any other address replies 0"
-abbrev pub reply_of : Reading → ℕ
-reply_of (Byte b) = b
-reply_of Nothing = 0
+abbrev pub reply_of : Option ℕ → ℕ
+reply_of (Some b) = b
+reply_of None = 0
 
 -- only register 02 changes by being read
 abbrev pub after_read : State → Source → State

@@ -1,6 +1,7 @@
 -- What is shown of the rules as a whole. The proofs are in proofs/Rows.antt, WellFormed.antt, NeverSix.antt and Unique.antt. Assumes
 -- nothing.
 use Rattle.std.specs.Prelude.{◌≡◌, true, false, List, ℤ}
+use Rattle.rules.specs.declared.answer.Code.TheVariants.{Done, BadField, IllFormed}
 use Rattle.rules.specs.declared.event.Numbers.{Numbers}
 use Rattle.rules.specs.declared.register.Channel.{Channel}
 use Rattle.rules.specs.declared.register.Register.{Register}
@@ -24,7 +25,7 @@ EachIsWritten = (r : Register) → target_of (row_of r).write ≡ Into r
 
 -- a fresh state is well formed
 abbrev pub FreshWellFormed : Type 0
-FreshWellFormed = (address : ℤ) → (made_of address).code ≡ 0 → well_formed (made_of address).state ≡ true
+FreshWellFormed = (address : ℤ) → (made_of address).code ≡ Done → well_formed (made_of address).state ≡ true
 
 -- every step keeps a state so
 abbrev pub StepsWellFormed : Type 0
@@ -33,12 +34,12 @@ StepsWellFormed = (s : State) (e : Numbers) → well_formed s ≡ true → well_
 -- so that, from power-on, no event of any sequence is answered with code 6
 abbrev pub NeverSix : Type 0
 NeverSix =
-    (address : ℤ) → (made_of address).code ≡ 0 → (es : List Numbers) (e : Numbers)
-    → (step_of (after (made_of address).state es) e).code ≡ 6 → ⊥
+    (address : ℤ) → (made_of address).code ≡ Done → (es : List Numbers) (e : Numbers)
+    → (step_of (after (made_of address).state es) e).code ≡ IllFormed → ⊥
 
 -- "a state of all zeros, which code 6 refuses"
 abbrev pub RefusedAfterCode2 : Type 0
-RefusedAfterCode2 = (address : ℤ) → (made_of address).code ≡ 2 → (e : Numbers) → (step_of (made_of address).state e).code ≡ 6
+RefusedAfterCode2 = (address : ℤ) → (made_of address).code ≡ BadField → (e : Numbers) → (step_of (made_of address).state e).code ≡ IllFormed
 
 -- "a state of all zeros": each part of it
 pub record Zeros (s : State) : Type 0 where
@@ -48,7 +49,7 @@ pub record Zeros (s : State) : Type 0 where
   pub channels : (ch : Channel) → channel_at s ch ≡ record { value = 0; converted = false; high = record { found = false; flag = false }; low = record { found = false; flag = false }; diode = record { found = false; flag = false }; therm = false; therm2 = false }
 
 abbrev pub ZerosAfterCode2 : Type 0
-ZerosAfterCode2 = (address : ℤ) → (made_of address).code ≡ 2 → Zeros (made_of address).state
+ZerosAfterCode2 = (address : ℤ) → (made_of address).code ≡ BadField → Zeros (made_of address).state
 
 -- "no second answer could satisfy it": whatever meets a contract `r ≡ x` is the same
 abbrev pub OneAnswer : {A : Type 0} → A → Type 0

@@ -1,10 +1,12 @@
 -- Trials of the rules: events sent to a fresh chip one after the other, and what the last is answered. Assumes nothing.
 use Rattle.std.specs.Prelude.{ℕ, List, [], ◌∷◌, ℤ}
 use Rattle.std.proofs.Math.IntN.ℤ.{pos}
+use Rattle.rules.specs.declared.answer.Code.TheVariants.{Done}
 use Rattle.rules.specs.declared.event.Numbers.{Numbers}
 use Rattle.rules.specs.declared.state.State.{State}
 use Rattle.rules.specs.declared.answer.Answer.{Answer}
 use Rattle.rules.specs.Bits.{weight}
+use Rattle.rules.specs.Codes.{number_of}
 use Rattle.rules.specs.PowerOn.{made_of}
 use Rattle.rules.specs.Step.{answer_of, last_from}
 
@@ -46,11 +48,11 @@ convert local remote later = start ∷ end local remote 0 ∷ later
 
 -- what an answer shows: code, reply, alert, therm; a line that is high is 1
 abbrev pub shows : Answer → List ℕ
-shows a = a.code ∷ a.reply ∷ weight a.alert 1 ∷ weight a.therm 1 ∷ []
+shows a = number_of a.code ∷ a.reply ∷ weight a.alert 1 ∷ weight a.therm 1 ∷ []
 
 -- what the last of the events is answered, from a state: before any, nothing was asked, so code and reply are 0
 unfoldable pub answered_from : State → List Numbers → List ℕ
-answered_from s es = shows (last_from (answer_of 0 0 s) es)
+answered_from s es = shows (last_from (answer_of Done 0 s) es)
 
 -- from a fresh state of an address
 unfoldable pub answered_at : ℕ → List Numbers → List ℕ

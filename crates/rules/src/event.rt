@@ -27,10 +27,3 @@ pub enum Event {
     Start,
     End { samples: Samples },
 }
-
-// What checking an event's numbers gives: the event, or document 01's code.
-#[derive(Clone, Copy)]
-pub enum Checked {
-    Good(Event),
-    Bad(u8),
-}

@@ -43,10 +43,3 @@ pub enum Target {
     OneShot,
     Nowhere,
 }
-
-// What a read finds: the register's byte, or that there is no register.
-#[derive(Clone, Copy)]
-pub enum Reading {
-    Byte(u8),
-    Nothing,
-}

@@ -1,5 +1,6 @@
 // One chip's state, and the values that are taken out of it. A state holds numbers and flags only: a channel is taken out as a value,
-// and put back field by field. The registers, the values, the address and the run count can hold what code 6 refuses.
+// and put back field by field, since one that is nested is copied as a block (docs/BENCHMARK.md). The registers, the values, the address and
+// the run count can hold what code 6 refuses.
 
 // What is given when a state is made, and kept by a reset.
 #[derive(Clone, Copy)]
@@ -38,7 +39,7 @@ pub struct Limits {
 
 // The pointer stands last: beside the address the compiler would carry both as one number and take it apart at every event. The THERM2
 // marks stand before it, beside each other, since every answer asks for both.
-#[derive(Clone, Copy)]
+#[derive(Clone, Copy, Default)]
 pub struct State {
     pub address: u8,
     pub config: u8,

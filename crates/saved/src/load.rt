@@ -1,51 +1,47 @@
 // The state that bytes hold.
 ghost use Rattle.std.specs.Prelude.{◌≡◌, ◌+◌, ◌*◌, get_or};
-ghost use Rattle.saved_rules.specs.Layout.{channel_from, is_set, state_at};
+ghost use Rattle.saved_rules.specs.Layout.{channel_from, is_set, mark_at, state_at};
 
+use blocks::byte_at;
+use parts::channels::with_channel;
+use rules::register::Channel;
 use rules::state::{ChannelState, Mark, State};
 
-// Past the end a byte reads as 0.
-pub fn byte(b: &[u8], i: usize) -> u8
-    ensures { result ≡ get_or b.now i 0 }
-{
-    if i < b.len() { b[i] } else { 0 }
-}
-
+// Past the end a byte reads as 0, and is no flag that stands.
 pub fn flag(b: &[u8], i: usize) -> bool
     ensures { result ≡ is_set (get_or b.now i 0) }
 {
-    byte(b, i) == 1
+    byte_at(b, i) == 1
 }
 
-// Two bytes, the low one first. A place that is no place reads as 0.
+// Two bytes, the low one first; a session has words of four, each by one call of the library.
 fn word(b: &[u8], i: u8) -> u16
     ensures { result ≡ get_or b.now i 0 + 256 * get_or b.now (i + 1) 0 }
 {
-    let low = byte(b, i as usize);
-    let high = byte(b, i as usize + 1);
-    (low as u16) + 256 * (high as u16)
+    let at = usize::from(i);
+    u16::from_le_bytes([byte_at(b, at), byte_at(b, at + 1)])
+}
+
+fn mark(b: &[u8], found: usize, stands: usize) -> Mark
+    ensures { result ≡ mark_at b.now found stands }
+{
+    Mark {
+        found: flag(b, found),
+        flag: flag(b, stands),
+    }
 }
 
 // A channel from its eleven bytes.
 fn channel(b: &[u8], i: u8) -> ChannelState
     ensures { result ≡ channel_from b.now i }
 {
-    let at = i as usize;
+    let at = usize::from(i);
     ChannelState {
         value: word(b, i),
         converted: flag(b, at + 2),
-        high: Mark {
-            found: flag(b, at + 3),
-            flag: flag(b, at + 4),
-        },
-        low: Mark {
-            found: flag(b, at + 5),
-            flag: flag(b, at + 6),
-        },
-        diode: Mark {
-            found: flag(b, at + 7),
-            flag: flag(b, at + 8),
-        },
+        high: mark(b, at + 3, at + 4),
+        low: mark(b, at + 5, at + 6),
+        diode: mark(b, at + 7, at + 8),
         therm: flag(b, at + 9),
         therm2: flag(b, at + 10),
     }
@@ -55,47 +51,28 @@ fn channel(b: &[u8], i: u8) -> ChannelState
 pub fn load(b: &[u8]) -> State
     ensures { result ≡ state_at b.now }
 {
-    let l = channel(b, 20);
-    let r = channel(b, 31);
-    State {
-        address: byte(b, 1),
-        pointer: byte(b, 2),
-        config: byte(b, 6),
-        rate: byte(b, 7),
-        hysteresis: byte(b, 18),
-        consecutive: byte(b, 19),
+    let s = State {
+        address: byte_at(b, 1),
+        pointer: byte_at(b, 2),
         busy: flag(b, 3),
-        runs: byte(b, 4),
+        runs: byte_at(b, 4),
         latch: flag(b, 5),
-        localhigh: byte(b, 8),
-        locallow: byte(b, 9),
-        localtherm: byte(b, 17),
-        localvalue: l.value,
-        localconverted: l.converted,
-        localhighfound: l.high.found,
-        localhighflag: l.high.flag,
-        locallowfound: l.low.found,
-        locallowflag: l.low.flag,
-        localdiodefound: l.diode.found,
-        localdiodeflag: l.diode.flag,
-        localthermflag: l.therm,
-        localtherm2mark: l.therm2,
-        remotehigh: byte(b, 10),
-        remotehighfine: byte(b, 14),
-        remotelow: byte(b, 11),
-        remotelowfine: byte(b, 15),
-        remoteoffset: byte(b, 12),
-        remoteoffsetfine: byte(b, 13),
-        remotetherm: byte(b, 16),
-        remotevalue: r.value,
-        remoteconverted: r.converted,
-        remotehighfound: r.high.found,
-        remotehighflag: r.high.flag,
-        remotelowfound: r.low.found,
-        remotelowflag: r.low.flag,
-        remotediodefound: r.diode.found,
-        remotediodeflag: r.diode.flag,
-        remotethermflag: r.therm,
-        remotetherm2mark: r.therm2,
-    }
+        config: byte_at(b, 6),
+        rate: byte_at(b, 7),
+        localhigh: byte_at(b, 8),
+        locallow: byte_at(b, 9),
+        remotehigh: byte_at(b, 10),
+        remotelow: byte_at(b, 11),
+        remoteoffset: byte_at(b, 12),
+        remoteoffsetfine: byte_at(b, 13),
+        remotehighfine: byte_at(b, 14),
+        remotelowfine: byte_at(b, 15),
+        remotetherm: byte_at(b, 16),
+        localtherm: byte_at(b, 17),
+        hysteresis: byte_at(b, 18),
+        consecutive: byte_at(b, 19),
+        ..State::default()
+    };
+    let s = with_channel(s, Channel::Local, channel(b, 20));
+    with_channel(s, Channel::Remote, channel(b, 31))
 }

@@ -1,32 +1,24 @@
 // A state as bytes, and whether bytes are what a state is saved as.
-ghost use Rattle.std.specs.Prelude.{◌≡◌, ◌/◌, ◌%◌};
+ghost use Rattle.std.specs.Prelude.{map, ◌≡◌, ◌++◌};
+ghost use Rattle.rules.specs.Rows.{registers};
+ghost use Rattle.rules.specs.State.{channel_at, stored_of};
 ghost use Rattle.saved_rules.specs.Layout as layout;
-ghost use Rattle.saved_rules.specs.Layout.{front_of, front_over, same_bytes, save_of, saved_over};
+ghost use Rattle.saved_rules.specs.Layout.{channel_of, head_of, same_bytes, save_of, saved_over};
 
-use rules::state::State;
+use blocks::{joined, put};
+use parts::channels::channel_at;
+use rules::register::Channel;
+use rules::state::{ChannelState, State};
 
 pub fn bit(set: bool) -> u8
     ensures { result ≡ layout.flag set }
 {
-    if set { 1 } else { 0 }
+    u8::from(set)
 }
 
-fn low(v: u16) -> u8
-    ensures { result ≡ v % 256 }
-{
-    (v % 256) as u8
-}
-
-fn high(v: u16) -> u8
-    ensures { result ≡ v / 256 }
-{
-    (v / 256) as u8
-}
-
-// The 42 bytes that have a meaning, the layout's number first.
-#[tactic(auto, unfolding(saved_rules::specs::Layout::front_of))]
-fn front(s: State) -> [u8; 42]
-    ensures { result ≡ front_of s }
+// What belongs to no channel, the layout's number first.
+fn head(s: State) -> [u8; 20]
+    ensures { result ≡ head_of s ++ map (stored_of s) registers }
 {
     [
         2,
@@ -49,32 +41,31 @@ fn front(s: State) -> [u8; 42]
         s.localtherm,
         s.hysteresis,
         s.consecutive,
-        low(s.localvalue),
-        high(s.localvalue),
-        bit(s.localconverted),
-        bit(s.localhighfound),
-        bit(s.localhighflag),
-        bit(s.locallowfound),
-        bit(s.locallowflag),
-        bit(s.localdiodefound),
-        bit(s.localdiodeflag),
-        bit(s.localthermflag),
-        bit(s.localtherm2mark),
-        low(s.remotevalue),
-        high(s.remotevalue),
-        bit(s.remoteconverted),
-        bit(s.remotehighfound),
-        bit(s.remotehighflag),
-        bit(s.remotelowfound),
-        bit(s.remotelowflag),
-        bit(s.remotediodefound),
-        bit(s.remotediodeflag),
-        bit(s.remotethermflag),
-        bit(s.remotetherm2mark),
     ]
 }
 
-// All bytes are compared, so that the compiler takes many at once.
+// A channel's eleven bytes.
+fn channel(c: ChannelState) -> [u8; 11]
+    ensures { result ≡ channel_of c }
+{
+    let [low, high] = c.value.to_le_bytes();
+    [
+        low,
+        high,
+        bit(c.converted),
+        bit(c.high.found),
+        bit(c.high.flag),
+        bit(c.low.found),
+        bit(c.low.flag),
+        bit(c.diode.found),
+        bit(c.diode.flag),
+        bit(c.therm),
+        bit(c.therm2),
+    ]
+}
+
+// All bytes are compared, so that the compiler takes many at once: by `==` an event from C took 67 instructions more, and a portion of
+// 4 KiB more than 1.1 times its replay (docs/BENCHMARK.md).
 pub fn same(a: &[u8], b: &[u8]) -> bool
     ensures { result ≡ same_bytes a.now b.now }
 {
@@ -90,42 +81,32 @@ pub fn same(a: &[u8], b: &[u8]) -> bool
     all
 }
 
-// What has a meaning, at the front of 128 bytes; those behind it are left, and so is any other length.
-fn write_front(s: State, out: &mut [u8])
-    ensures { out.new ≡ front_over (front_of s) out.old }
+fn channels(s: State) -> [u8; 22]
+    ensures { result ≡ channel_of (channel_at s Channel.Local) ++ channel_of (channel_at s Channel.Remote) }
 {
-    if out.len() != 128 {
-        return;
-    }
-    let bytes = front(s);
-    let begin = &mut out[..42];
-    begin.copy_from_slice(&bytes);
+    let local = channel(channel_at(s, Channel::Local));
+    let remote = channel(channel_at(s, Channel::Remote));
+    joined(&local, &remote)
 }
 
-// A state saved.
+// A state saved: 0 behind what has a meaning. Its size is the C header's.
+#[tactic(auto, unfolding(saved_rules::specs::Layout::save_of, saved_rules::specs::Layout::front_of))]
 fn saved(s: State) -> [u8; 128]
     ensures { result ≡ save_of s }
 {
-    let mut all = [0u8; 128];
-    write_front(s, &mut all);
-    all
+    joined(&head(s), &channels(s))
 }
 
-// Whether bytes are what a state is saved as.
+// Whether bytes are what a state is saved as. A session has its own two lines for it, by its own definition of the bytes.
 pub fn holds(s: State, b: &[u8]) -> bool
     ensures { result ≡ same_bytes (save_of s) b.now }
 {
-    let all = saved(s);
-    same(&all, b)
+    same(&saved(s), b)
 }
 
 // A state into 128 bytes; any other length is left as it is.
 pub fn save(s: State, out: &mut [u8])
     ensures { out.new ≡ saved_over (save_of s) out.old }
 {
-    if out.len() != 128 {
-        return;
-    }
-    let all = saved(s);
-    out.copy_from_slice(&all);
+    put(&saved(s), out);
 }

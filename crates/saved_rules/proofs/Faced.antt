@@ -12,13 +12,14 @@ use Rattle.rules.specs.declared.answer.Answer.{Answer}
 use Rattle.rules.specs.declared.answer.Made.{Made}
 use Rattle.rules.specs.declared.event.Numbers.{Numbers}
 use Rattle.rules.specs.declared.state.State.{State}
+use Rattle.rules.specs.Codes.{number_of}
 use Rattle.rules.specs.PowerOn.{made_of}
 use Rattle.rules.specs.Step.{step_of}
 use Rattle.rules.proofs.Lists.{no}
 use Rattle.saved_rules.specs.Layout.{is_saved, same_bytes, save_of, saved_over, state_at}
 use Rattle.saved_rules.specs.Face.{EventDone, PoweredOn, answer_bytes, answer_over, event_of, power_on_of, powered_from}
 
-pub powered : (address : ℤ) (before : List ℕ) {made : Made} {after : List ℕ} {r : ℤ} → length before ≡ 128 → made ≡ made_of address → after ≡ saved_over (powered_from made).chip before → r ≡ pos made.code → PoweredOn (power_on_of address before) r after
+pub powered : (address : ℤ) (before : List ℕ) {made : Made} {after : List ℕ} {r : ℤ} → length before ≡ 128 → made ≡ made_of address → after ≡ saved_over (powered_from made).chip before → r ≡ pos (number_of made.code) → PoweredOn (power_on_of address before) r after
 unfolding power_on_of
 powered address before n m e c =
     rw (eq-eqb (length before) 128 n)
@@ -48,7 +49,7 @@ module _ (chip answer : List ℕ) (e : Numbers) where
       let bad : same_bytes (save_of (state_at chip)) chip ≡ false = rw (s) at (sym held ∙ t) in
       rw (fits.0, fits.1, bad) (record { code = c; bytes = refl; told = told ∙ rw fits.1 })
 
-  pub happened : {s : State} {held : Bool} {a : Answer} {chip' answer' : List ℕ} {r : ℤ} → (not (eqb (length chip) 128) || not (eqb (length answer) 8)) ≡ false → s ≡ state_at chip → held ≡ same_bytes (save_of s) chip → held ≡ true → a ≡ step_of s e → chip' ≡ saved_over (save_of a.state) chip → answer' ≡ answer_over (answer_bytes a.code a.reply a.alert a.therm) answer → r ≡ pos a.code → EventDone (event_of chip e answer) r chip' answer'
+  pub happened : {s : State} {held : Bool} {a : Answer} {chip' answer' : List ℕ} {r : ℤ} → (not (eqb (length chip) 128) || not (eqb (length answer) 8)) ≡ false → s ≡ state_at chip → held ≡ same_bytes (save_of s) chip → held ≡ true → a ≡ step_of s e → chip' ≡ saved_over (save_of a.state) chip → answer' ≡ answer_over (answer_bytes (number_of a.code) a.reply a.alert a.therm) answer → r ≡ pos (number_of a.code) → EventDone (event_of chip e answer) r chip' answer'
   unfolding event_of is_saved
   happened h s held t a saved told c =
       let fits = fitting (eqb (length chip) 128) (eqb (length answer) 8) h in

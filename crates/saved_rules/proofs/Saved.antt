@@ -7,9 +7,11 @@ use native.Mathlib.Omega.{arith}
 use lib.Dec.{eqb}
 use lib.ListN.{length}
 use borrow.Author.Tests.{eq-eqb, ne_eqb}
+use Rattle.rules.specs.declared.answer.Code.TheVariants.{Done}
 use Rattle.rules.specs.declared.event.Numbers.{Numbers}
 use Rattle.rules.specs.declared.state.State.{State}
 use Rattle.rules.specs.Alarm.{Demand, Shows, history_of, state_of}
+use Rattle.rules.specs.Codes.{number_of}
 use Rattle.rules.specs.PowerOn.{made_of}
 use Rattle.rules.specs.Step.{answer_of, last_from, step_of}
 use Rattle.rules.proofs.Alarm.{last_state, no_alarm_lost}
@@ -82,7 +84,7 @@ module _ (chip : List ℕ) (e : Numbers) (answer : List ℕ) where
   kept true true false a b c h = rw (a, b, c)
   kept true true true a b c h =
       rw (a, b, c)
-      (ap save_of (refused_kept (state_at chip) e (ne_eqb (step_of (state_at chip) e).code 0 (rw (a, b, c) at h))).0 ∙ loaded_is_saved chip c)
+      (ap save_of (refused_kept (state_at chip) e (ne_eqb (number_of (step_of (state_at chip) e).code) 0 (rw (a, b, c) at h))).0 ∙ loaded_is_saved chip c)
 
 pub refused_keeps_bytes : RefusedKeepsBytes
 refused_keeps_bytes chip e answer h = kept chip e answer (eqb (length chip) 128) (eqb (length answer) 8) (is_saved chip) refl refl refl h
@@ -92,7 +94,7 @@ unfolding bytes_after last_from
 events_are_steps s [] answer n = refl
 events_are_steps s (e ∷ es) answer n =
     rw (event_is_step s e answer n)
-    (events_are_steps (step_of s e).state es answer n ∙ ap save_of (last_state es (answer_of 0 0 (step_of s e).state) (step_of s e) refl))
+    (events_are_steps (step_of s e).state es answer n ∙ ap save_of (last_state es (answer_of Done 0 (step_of s e).state) (step_of s e) refl))
 
 pub bytes_no_alarm_lost : BytesNoAlarmLost
 bytes_no_alarm_lost address made chip answer n m es =

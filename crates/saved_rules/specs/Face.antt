@@ -1,9 +1,11 @@
 -- What a C program's calls leave in every byte that it lends. Assumes nothing.
 use Rattle.std.specs.Prelude.{ℕ, ◌≡◌, Bool, cond, ◌&&◌, List, [], ◌∷◌, eqb, ℤ, length, replicate}
 use Rattle.std.proofs.Math.IntN.ℤ.{pos}
+use Rattle.blocks.specs.Blocks.{over}
 use Rattle.rules.specs.declared.answer.Answer.{Answer}
 use Rattle.rules.specs.declared.answer.Made.{Made}
 use Rattle.rules.specs.declared.event.Numbers.{Numbers}
+use Rattle.rules.specs.Codes.{is_done, number_of}
 use Rattle.rules.specs.PowerOn.{made_of}
 use Rattle.rules.specs.Step.{step_of}
 use Rattle.saved_rules.specs.Layout.{flag, is_saved, save_of, state_at}
@@ -17,7 +19,7 @@ pub record Powered : Type 0 where
 
 -- a fresh chip; "a bad address is code 2" and leaves zeros, which are no saved state
 abbrev pub powered_from : Made → Powered
-powered_from made = record { code = made.code; chip = cond (eqb made.code 0) (save_of made.state) (replicate 128 0) }
+powered_from made = record { code = number_of made.code; chip = cond (is_done made.code) (save_of made.state) (replicate 128 0) }
 
 -- of another length nothing is written
 unfoldable pub power_on_of : ℤ → List ℕ → Powered
@@ -40,12 +42,12 @@ abbrev pub answer_bytes : ℕ → ℕ → Bool → Bool → List ℕ
 answer_bytes code reply alert therm = code ∷ reply ∷ flag alert ∷ flag therm ∷ 0 ∷ 0 ∷ 0 ∷ 0 ∷ []
 
 abbrev pub answer_over : List ℕ → List ℕ → List ℕ
-answer_over answer before = cond (eqb (length before) 8) answer before
+answer_over = over 8
 
 -- the step's answer, and the state after it
 abbrev pub stepped : Answer → Evented
 stepped a =
-    record { code = a.code; chip = save_of a.state; answer = answer_bytes a.code a.reply a.alert a.therm }
+    record { code = number_of a.code; chip = save_of a.state; answer = answer_bytes (number_of a.code) a.reply a.alert a.therm }
 
 -- bytes that are no saved state: code 6, both lines 1, the chip untouched
 abbrev pub unsaved : List ℕ → Evented

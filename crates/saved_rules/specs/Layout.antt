@@ -1,5 +1,6 @@
 -- A saved chip: 128 bytes, the layout's number first, and 0 where a byte has no meaning. Assumes nothing.
-use Rattle.std.specs.Prelude.{ℕ, ◌+◌, ◌*◌, ◌/◌, ◌%◌, Bool, cond, true, false, ◌&&◌, List, [], ◌∷◌, ◌++◌, map, eqb, drop, get_or, length, replicate}
+use Rattle.std.specs.Prelude.{ℕ, ◌+◌, ◌*◌, ◌/◌, ◌%◌, Bool, cond, true, false, ◌&&◌, List, [], ◌∷◌, ◌++◌, map, eqb, get_or, replicate}
+use Rattle.blocks.specs.Blocks.{over}
 use Rattle.rules.specs.declared.register.Channel.TheVariants.{Local, Remote}
 use Rattle.rules.specs.declared.register.Register.{Register}
 use Rattle.rules.specs.declared.state.ChannelState.{ChannelState}
@@ -33,12 +34,9 @@ front_of s = head_of s ++ map (stored_of s) registers ++ channel_of (channel_at 
 unfoldable pub save_of : State → List ℕ
 save_of s = front_of s ++ replicate 86 0
 
--- what has a meaning, at the front of a saved chip; any other length is left as it is
-abbrev pub front_over : List ℕ → List ℕ → List ℕ
-front_over front before = cond (eqb (length before) 128) (front ++ drop 42 before) before
-
+-- a saved chip, where there are 128 bytes for it; any other length is left as it is
 abbrev pub saved_over : List ℕ → List ℕ → List ℕ
-saved_over saved before = cond (eqb (length before) 128) saved before
+saved_over = over 128
 
 -- ---- The state that bytes hold ----
 

@@ -1,6 +1,8 @@
 -- What is shown of a saved chip, and of the calls on it. The proofs are in proofs/Saved.antt. Assumes nothing.
 use Rattle.std.specs.Prelude.{ℕ, ◌≡◌, cond, false, true, List, [], ◌∷◌, ℤ, length, replicate}
 use Rattle.std.proofs.Math.IntN.ℤ.{pos}
+use Rattle.rules.specs.declared.answer.Code.TheVariants.{Done, BadField}
+use Rattle.rules.specs.Codes.{number_of}
 use Rattle.rules.specs.declared.answer.Answer.{Answer}
 use Rattle.rules.specs.declared.event.Numbers.{Numbers}
 use Rattle.rules.specs.declared.state.State.{State}
@@ -25,8 +27,8 @@ LoadedIsSaved = (b : List ℕ) → is_saved b ≡ true → save_of (state_at b) 
 
 -- power on leaves a saved chip that was just powered on; of an address that no chip has, zeros, which are none; of another length what was
 pub record PowerOnGives (address : ℤ) (chip : List ℕ) : Type 0 where
-  pub fresh : length chip ≡ 128 → (made_of address).code ≡ 0 → power_on_of address chip ≡ record { code = 0; chip = save_of (made_of address).state }
-  pub bad : length chip ≡ 128 → (made_of address).code ≡ 2 → power_on_of address chip ≡ record { code = 2; chip = replicate 128 0 }
+  pub fresh : length chip ≡ 128 → (made_of address).code ≡ Done → power_on_of address chip ≡ record { code = 0; chip = save_of (made_of address).state }
+  pub bad : length chip ≡ 128 → (made_of address).code ≡ BadField → power_on_of address chip ≡ record { code = 2; chip = replicate 128 0 }
   pub other : (length chip ≡ 128 → ⊥) → power_on_of address chip ≡ record { code = 2; chip = chip }
 
 abbrev pub PowerOnMeans : Type 0
@@ -37,13 +39,13 @@ ZerosAreNone = is_saved (replicate 128 0) ≡ false
 
 -- an answer's eight bytes
 abbrev pub told : Answer → List ℕ
-told a = a.code ∷ a.reply ∷ cond a.alert 1 0 ∷ cond a.therm 1 0 ∷ 0 ∷ 0 ∷ 0 ∷ 0 ∷ []
+told a = number_of a.code ∷ a.reply ∷ cond a.alert 1 0 ∷ cond a.therm 1 0 ∷ 0 ∷ 0 ∷ 0 ∷ 0 ∷ []
 
 -- an event on a saved chip is the step on its state, a refused one too
 abbrev pub EventIsStep : Type 0
 EventIsStep =
     (s : State) (e : Numbers) (answer : List ℕ) → length answer ≡ 8
-    → event_of (save_of s) e answer ≡ record { code = (step_of s e).code; chip = save_of (step_of s e).state; answer = told (step_of s e) }
+    → event_of (save_of s) e answer ≡ record { code = number_of (step_of s e).code; chip = save_of (step_of s e).state; answer = told (step_of s e) }
 
 -- a refused event leaves the chip's bytes as they were, whatever they are
 abbrev pub RefusedKeepsBytes : Type 0
@@ -79,7 +81,7 @@ pub record InBytes (address : ℤ) (es : List Numbers) (bytes answer : List ℕ)
 
 abbrev pub BytesNoAlarmLost : Type 0
 BytesNoAlarmLost =
-    (address : ℤ) → (made_of address).code ≡ 0 → (chip answer : List ℕ) → length chip ≡ 128 → length answer ≡ 8 → (es : List Numbers)
+    (address : ℤ) → (made_of address).code ≡ Done → (chip answer : List ℕ) → length chip ≡ 128 → length answer ≡ 8 → (es : List Numbers)
     → InBytes address es (bytes_after (power_on_of address chip).chip es answer) answer
 
 -- the promises of the two calls ask for what the definitions give, and no second answer meets them

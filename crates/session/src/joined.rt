@@ -2,6 +2,7 @@
 ghost use Rattle.std.specs.Prelude.{◌++◌};
 ghost use Rattle.replay_rules.specs.Play.{Ran};
 
+use crate::stops::is_full;
 use crate::window::window;
 use replay::play::play;
 use replay_rules::play::Played;
@@ -15,34 +16,31 @@ pub fn play_joined(s: State, first: &[u8], second: &[u8], out: &mut [u8]) -> Pla
     let mut records: usize = 0;
     let mut used: usize = 0;
     let mut written: usize = 0;
+    // no index is counted: each round moves by what its play used
     while used < first.len() {
         let w = window(&first[used..], second);
-        let n = w.count;
-        let seen = w.bytes;
-        let p = play(state, &seen[..n], &mut out[written..]);
-        let next = p.state;
-        if (p.code == 8) | (p.used == 0) {
+        let p = play(state, &w.bytes[..w.count], &mut out[written..]);
+        if is_full(p.stop) | (p.used == 0) {
             return Played {
-                code: p.code,
+                stop: p.stop,
                 records: records + p.records,
                 used: used + p.used,
                 written: written + p.written,
-                state: next,
+                state: p.state,
             };
         }
-        state = next;
+        state = p.state;
         records += p.records;
         used += p.used;
         written += p.written;
     }
     let at = used - first.len();
     let q = play(state, &second[at..], &mut out[written..]);
-    let last = q.state;
     Played {
-        code: q.code,
+        stop: q.stop,
         records: records + q.records,
         used: used + q.used,
         written: written + q.written,
-        state: last,
+        state: q.state,
     }
 }

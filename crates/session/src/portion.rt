@@ -1,37 +1,36 @@
 // One portion of a trace.
 ghost use Rattle.std.specs.Prelude.{cond, ◌||◌, ◌≡◌, ◌+◌, ◌<◌, length};
-ghost use Rattle.session_rules.specs.Portion.{FedBy, refused_with};
+ghost use Rattle.session_rules.specs.Portion.{FedBy, fed_code, refusal_of};
 ghost use Rattle.session_rules.specs.Session.{padded};
 
 use crate::joined::play_joined;
 use crate::session::is_session;
-use crate::window::{is_part, least, packed, window_at};
-use replay_rules::play::Played;
-use session_rules::session::{Fed, Session};
+use crate::stops::{for_portion, is_end, is_unread};
+use crate::window::{is_part, packed, window_at};
+use replay_rules::play::{LONGEST_TRACE, Played};
+use session_rules::session::{Fed, Session, Stop};
 
-const MOST: usize = 16777216;
-
-// 6, 9, 7 or 2, in this order; 0 where the portion is looked at.
-#[tactic(auto, unfolding(session_rules::specs::Portion::refused_with))]
-pub fn refused_with(s: Session, size: usize) -> u8
-    ensures { result ≡ refused_with s size }
+// 6, 9, 7 or 2, in this order; none where the portion is looked at.
+#[tactic(auto, unfolding(session_rules::specs::Portion::refusal_of))]
+pub fn refused_with(s: Session, size: usize) -> Option<Stop>
+    ensures { result ≡ refusal_of s size }
 {
     if !is_session(s) {
-        return 6;
+        return Some(Stop::NoSession);
     }
     if s.ended & (0 < size) {
-        return 9;
+        return Some(Stop::Ended);
     }
     if s.stopped {
-        return 7;
+        return Some(Stop::Record);
     }
-    if MOST < size {
-        return 2;
+    if LONGEST_TRACE < size {
+        return Some(Stop::TooLong);
     }
-    if MOST < s.used + s.count + size {
-        return 2;
+    if LONGEST_TRACE < s.used + s.count + size {
+        return Some(Stop::TooLong);
     }
-    0
+    None
 }
 
 // The session behind a play. The sums are of a session and of a play over a portion that it takes, so none is too large.
@@ -41,63 +40,55 @@ fn moved(s: Session, p: Played, ended: bool, stopped: bool, rest: &[u8]) -> Sess
     requires written_bound { s.written + p.written < 18446744073709551616 }
     ensures { result ≡ record { chip = p.state; records = s.records + p.records; used = s.used + p.used; written = s.written + p.written; ended = s.ended || ended; stopped = stopped; count = length rest.now; carried = padded rest.now } }
 {
-    let chip = p.state;
-    let carried = packed(rest);
     Session {
-        chip,
+        chip: p.state,
         records: s.records + p.records,
         used: s.used + p.used,
         written: s.written + p.written,
         ended: s.ended | ended,
         stopped,
         count: rest.len(),
-        carried,
+        carried: packed(rest),
     }
 }
 
-fn end_code(late: bool) -> u8
-    ensures { result ≡ cond late 7 0 }
+fn stop_if(late: bool) -> Option<Stop>
+    ensures { fed_code result ≡ cond late 7 0 }
 {
-    if late { 7 } else { 0 }
+    late.then_some(Stop::Record)
 }
 
 // A record that is partial is code 7 only at the end; one that is bad, and one whose answer does not fit, stop the portion before them.
 pub fn feed(s: Session, portion: &[u8], end: bool, out: &mut [u8]) -> Fed
     ensures { FedBy s portion.now end out.old out.new result }
 {
-    let code = refused_with(s, portion.len());
-    if code != 0 {
+    if let Some(stop) = refused_with(s, portion.len()) {
         return Fed {
-            code,
+            stop: Some(stop),
             taken: 0,
             written: 0,
             session: s,
         };
     }
-    let chip = s.chip;
-    let carried = s.carried;
-    let n = s.count;
-    let p = play_joined(chip, &carried[..n], portion, out);
-    let w = window_at(&carried[..n], portion, p.used);
-    let k = w.count;
-    let seen = w.bytes;
-    let waiting = (p.code == 7) & is_part(&seen[..k]);
-    if waiting | (p.code == 0) {
+    let carried = &s.carried[..s.count];
+    let p = play_joined(s.chip, carried, portion, out);
+    let w = window_at(carried, portion, p.used);
+    let seen = &w.bytes[..w.count];
+    let waiting = is_unread(p.stop) & is_part(seen);
+    if waiting | is_end(p.stop) {
         let late = waiting & end;
-        let session = moved(s, p, end, late, &seen[..k]);
         return Fed {
-            code: end_code(late),
+            stop: stop_if(late),
             taken: portion.len(),
             written: p.written,
-            session,
+            session: moved(s, p, end, late, seen),
         };
     }
-    let m = least(p.used, n);
-    let session = moved(s, p, false, p.code == 7, &carried[m..n]);
+    let m = p.used.min(s.count);
     Fed {
-        code: p.code,
+        stop: for_portion(p.stop),
         taken: p.used - m,
         written: p.written,
-        session,
+        session: moved(s, p, false, is_unread(p.stop), &s.carried[m..s.count]),
     }
 }

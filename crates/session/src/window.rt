@@ -1,31 +1,21 @@
 // Two parts that stand one behind the other, looked at through the 39 bytes that decide whether a record begins there.
-ghost use Rattle.std.specs.Prelude.{min, ◌≡◌, ◌++◌, drop};
+ghost use Rattle.std.specs.Prelude.{◌≡◌, ◌++◌, drop};
 ghost use Rattle.session_rules.specs.Session.{padded, partial};
 ghost use Rattle.session_rules.specs.Portion.{window_of};
 
-use crate::copy;
+use blocks::joined;
 use session_rules::session::Window;
 use text::record::read_record;
-use text_rules::record::Parsed;
-
-pub fn least(a: usize, b: usize) -> usize
-    ensures { result ≡ min a b }
-{
-    if a < b { a } else { b }
-}
+use text_rules::record::Unread;
 
 // From the first byte of a on.
 pub fn window(a: &[u8], b: &[u8]) -> Window
     ensures { result ≡ window_of (a.now ++ b.now) }
 {
-    let n = least(39, a.len());
-    let k = least(39 - n, b.len());
-    let mut bytes = [0u8; 39];
-    copy(&a[..n], &mut bytes);
-    copy(&b[..k], &mut bytes[n..]);
+    let n = a.len().min(39);
     Window {
-        bytes,
-        count: n + k,
+        bytes: joined(a, b),
+        count: n + b.len().min(39 - n),
     }
 }
 
@@ -37,7 +27,7 @@ pub fn window_at(a: &[u8], b: &[u8], at: usize) -> Window
         return window(&a[at..], b);
     }
     let n = a.len();
-    let k = least(at - n, b.len());
+    let k = (at - n).min(b.len());
     window(&a[n..], &b[k..])
 }
 
@@ -45,20 +35,12 @@ pub fn window_at(a: &[u8], b: &[u8], at: usize) -> Window
 pub fn is_part(s: &[u8]) -> bool
     ensures { result ≡ partial s.now }
 {
-    let parsed = read_record(s);
-    match parsed {
-        Parsed::Whole(_, _) => false,
-        Parsed::Part => true,
-        Parsed::Malformed => false,
-    }
+    matches!(read_record(s), Err(Unread::Part))
 }
 
 // The 38 bytes that hold a part: 0 behind it.
 pub fn packed(s: &[u8]) -> [u8; 38]
     ensures { result ≡ padded s.now }
 {
-    let n = least(38, s.len());
-    let mut all = [0u8; 38];
-    copy(&s[..n], &mut all);
-    all
+    joined(s, &[])
 }

@@ -1,4 +1,5 @@
 -- What is claimed of portions one after the other, by the invariant of a session that calls have reached. Assumes nothing.
+use Rattle.std.specs.Prelude.{Ok, Err}
 use Prim.Native.Nat.{ℕ, min, ◌+◌, ◌-◌, ◌≤◌, ◌<◌}
 use native.Mathlib.Omega.{arith}
 use mathlib.Core.Path.{◌≡◌, refl, sym, ap, subst, ◌∙◌}
@@ -14,12 +15,13 @@ use Rattle.rules.specs.declared.state.State.{State}
 use Rattle.rules.specs.Alarm.{Demand, Shows}
 use Rattle.rules.specs.PowerOn.{made_of}
 use Rattle.text_rules.specs.declared.record.Record.{Record}
-use Rattle.text_rules.specs.declared.record.Parsed.TheVariants.{Whole, Part, Malformed}
+use Rattle.text_rules.specs.declared.record.Unread.TheVariants.{Part, Malformed}
 use Rattle.text_rules.specs.Record.{record_of}
 use Rattle.text_rules.proofs.More.{refusal_stays}
 use Rattle.replay_rules.specs.Alarms.{history_at, run_at}
 use Rattle.replay_rules.specs.Play.{Run, answer_to, run_of, text_of}
-use Rattle.replay_rules.specs.Replay.{report_of, word}
+use Rattle.blocks.specs.Blocks.{word}
+use Rattle.replay_rules.specs.Replay.{report_of}
 use Rattle.replay_rules.specs.Room.{room_of}
 use Rattle.replay_rules.proofs.Alarms.{replay_no_alarm_lost}
 use Rattle.replay_rules.proofs.Room.{no_eight}
@@ -84,10 +86,10 @@ ended s portion end room h (Looked o (Waits z g p)) e m = record { all = refl; c
     by true = refl
     by false = refl
 ended s portion end room h (Looked o (Bad z p)) e m =
-    let early : s.ended ≡ false = not_ended s portion end room h o (λ nil. let y : record_of (drop (run_of s.chip (carried_of s ++ portion) room).used (carried_of s ++ portion)) ≡ Part = ap record_of nil ∙ part_nil in (let x : ◌≡◌ {A = ℕ} 0 1 = cc in omega arith)) in
+    let early : s.ended ≡ false = not_ended s portion end room h o (λ nil. let y : record_of (drop (run_of s.chip (carried_of s ++ portion) room).used (carried_of s ++ portion)) ≡ Err Part = ap record_of nil ∙ part_nil in (let x : ◌≡◌ {A = ℕ} 0 1 = cc in omega arith)) in
     absurd (let y : (s.ended || false) ≡ false = rw early in (let x : ◌≡◌ {A = ℕ} 0 1 = cc in omega arith))
 ended s portion end room h (Looked o (Full z q n read full)) e m =
-    let early : s.ended ≡ false = not_ended s portion end room h o (λ nil. let y : record_of (drop (run_of s.chip (carried_of s ++ portion) room).used (carried_of s ++ portion)) ≡ Part = ap record_of nil ∙ part_nil in (let x : ◌≡◌ {A = ℕ} 0 1 = cc in omega arith)) in
+    let early : s.ended ≡ false = not_ended s portion end room h o (λ nil. let y : record_of (drop (run_of s.chip (carried_of s ++ portion) room).used (carried_of s ++ portion)) ≡ Err Part = ap record_of nil ∙ part_nil in (let x : ◌≡◌ {A = ℕ} 0 1 = cc in omega arith)) in
     absurd (let y : (s.ended || false) ≡ false = rw early in (let x : ◌≡◌ {A = ℕ} 0 1 = cc in omega arith))
 
 -- once the end was declared, something is carried exactly if it stopped with 7
@@ -123,7 +125,7 @@ end_is_whole address e cs c last not-nine room h =
 
 -- a call that gives 7 before the end is stopped by a record that is bad
 bad : (s : Session) (portion : List ℕ) (end : Bool) (room : ℕ) {f : Feed} → Given s portion end room f → s.stopped ≡ false → f.code ≡ 7 → f.session.ended ≡ false
-    → let r = run_of s.chip (carried_of s ++ portion) room in Open s (length portion) × (r.code ≡ 7) × (record_of (drop r.used (carried_of s ++ portion)) ≡ Malformed) × (f ≡ stopped_at s r)
+    → let r = run_of s.chip (carried_of s ++ portion) room in Open s (length portion) × (r.code ≡ 7) × (record_of (drop r.used (carried_of s ++ portion)) ≡ Err Malformed) × (f ≡ stopped_at s r)
 bad s portion end room (Refused code (Strange a) n) g e l = absurd (omega arith)
 bad s portion end room (Refused code (Late a b c) n) g e l = absurd (omega arith)
 bad s portion end room (Refused code (Again a b c) n) g e l = absurd (let x : ◌≡◌ {A = ℕ} 0 1 = cc in omega arith)
@@ -157,7 +159,7 @@ bad_at_once address e cs c more room going seven early h =
     let fits : length answers + length r.text ≤ room =
     omega (arith, h, total, taken_size k, k.written, k.held.long, k.held.least, z.long, z.least, z.inside, length-append (carried_of s) c.portion, carried_size s k.held) in
     let some : 0 < length left = by left b.2 in
-    let never : record_of (left ++ more) ≡ Malformed = refusal_stays left more b.2 in
+    let never : record_of (left ++ more) ≡ Err Malformed = refusal_stays left more b.2 in
     let same : run_of s.chip bytes (room - length answers) ≡ r = course_room (room - length answers) way (λ y. omega (arith, y, b.1)) (omega (arith, fits)) in
     let place : taken ++ (c.portion ++ more) ≡ k.through ++ (bytes ++ more) =
     ap (λ (x : List ℕ). x ++ (c.portion ++ more)) k.whole ∙ append_assoc k.through (carried_of s) (c.portion ++ more)
@@ -179,8 +181,8 @@ bad_at_once address e cs c more room going seven early h =
           ∙ sym (ap report_of run);
     }
   where
-    by : (l : List ℕ) → record_of l ≡ Malformed → 0 < length l
-    by [] p = absurd (let y : record_of [] ≡ Part = part_nil in (let x : ◌≡◌ {A = ℕ} 0 1 = cc in omega arith))
+    by : (l : List ℕ) → record_of l ≡ Err Malformed → 0 < length l
+    by [] p = absurd (let y : record_of [] ≡ Err Part = part_nil in (let x : ◌≡◌ {A = ℕ} 0 1 = cc in omega arith))
     by (x ∷ l) p = omega arith
 
 -- ---- Room ----
@@ -202,7 +204,7 @@ eight s portion end room (Looked o (Bad z p)) e = absurd (omega (arith, z, e))
 eight s portion end room (Looked o (Full z q n read full)) e = (o, Full z q n read full, refl, z)
 
 waiting : (s : Session) (c : Call) → is_session s ≡ true → Open s (length c.portion) → let r = run_of s.chip (carried_of s ++ c.portion) c.room in r.code ≡ 8
-    → (q : Record) (n : ℕ) → record_of (drop r.used (carried_of s ++ c.portion)) ≡ Whole q n → c.room - length r.text < length (text_of (answer_to r.state q))
+    → (q : Record) (n : ℕ) → record_of (drop r.used (carried_of s ++ c.portion)) ≡ Ok (q, n) → c.room - length r.text < length (text_of (answer_to r.state q))
     → Waiting s c (stopped_at s r)
 waiting s c is o code q n read full =
     let h = held s is in

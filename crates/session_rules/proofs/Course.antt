@@ -1,5 +1,6 @@
 -- A run without its count of turns: nothing is left, no record is there, an answer does not fit, or one record is answered and the run goes
 -- on behind it. Whatever is shown of a run is shown of these four. Assumes nothing.
+use Rattle.std.specs.Prelude.{Ok, Err}
 use Prim.Native.Nat.{ℕ, zero, suc, ◌+◌, ◌-◌, ◌≤◌, ◌<◌}
 use native.Mathlib.Omega.{arith}
 use mathlib.Core.Path.{◌≡◌, refl, sym, ap, subst, ◌∙◌}
@@ -10,11 +11,11 @@ use lib.ListN.{length, drop, length-drop}
 use borrow.Author.Tests.{le-leb, lt-leb, leb-true, leb-false, ne_eqb}
 use Rattle.rules.specs.declared.state.State.{State}
 use Rattle.text_rules.specs.declared.record.Record.{Record}
-use Rattle.text_rules.specs.declared.record.Parsed.{Parsed}
-use Rattle.text_rules.specs.declared.record.Parsed.TheVariants.{Whole, Part, Malformed}
+use Rattle.text_rules.specs.Record.{Parsed}
+use Rattle.text_rules.specs.declared.record.Unread.TheVariants.{Part, Malformed}
 use Rattle.text_rules.specs.Record.{record_of}
 use Rattle.text_rules.proofs.Records.{record_fits}
-use Rattle.replay_rules.specs.declared.play.Turn.{Turn}
+use Rattle.replay_rules.specs.Play.{Turn}
 use Rattle.replay_rules.specs.Play.{Run, added_of, answer_to, begun, ended, run_from, run_of, text_of, turn_of, went}
 use Rattle.replay_rules.proofs.Came.{Came, came, onward}
 use Rattle.replay_rules.proofs.Came.Came.{On, Full, Bad}
@@ -85,14 +86,14 @@ run_on turns p rest room h e =
 
 -- no record stands there
 pub data Lacking (rest : List ℕ) : Type 0 where
-  Partly : record_of rest ≡ Part → Lacking rest
-  Never : record_of rest ≡ Malformed → Lacking rest
+  Partly : record_of rest ≡ Err Part → Lacking rest
+  Never : record_of rest ≡ Err Malformed → Lacking rest
 
 pub data Course : State → List ℕ → ℕ → Run → Type 0 where
   End : (s : State) (room : ℕ) → Course s [] room (halt s 0)
   Lacks : (s : State) (bytes : List ℕ) (room : ℕ) → 0 < length bytes → Lacking bytes → Course s bytes room (halt s 7)
-  Tight : (s : State) (bytes : List ℕ) (room : ℕ) (r : Record) (n : ℕ) → record_of bytes ≡ Whole r n → room < length (text_of (answer_to s r)) → Course s bytes room (halt s 8)
-  Goes : (s : State) (bytes : List ℕ) (room : ℕ) (r : Record) (n : ℕ) (q : Run) → record_of bytes ≡ Whole r n → length (text_of (answer_to s r)) ≤ room
+  Tight : (s : State) (bytes : List ℕ) (room : ℕ) (r : Record) (n : ℕ) → record_of bytes ≡ Ok (r, n) → room < length (text_of (answer_to s r)) → Course s bytes room (halt s 8)
+  Goes : (s : State) (bytes : List ℕ) (room : ℕ) (r : Record) (n : ℕ) (q : Run) → record_of bytes ≡ Ok (r, n) → length (text_of (answer_to s r)) ≤ room
       → Course (answer_to s r).state (drop n bytes) (room - length (text_of (answer_to s r))) q → Course s bytes room (after (one s r n) q)
 
 step : (turns : ℕ) (p : Run) (rest : List ℕ) (room : ℕ) → 0 < length rest
@@ -112,7 +113,7 @@ module _ (s : State) (bytes : List ℕ) (room : ℕ) where
   run_lacks g (Partly e) = first g ∙ rw e
   run_lacks g (Never e) = first g ∙ rw e
 
-  module _ (r : Record) (n : ℕ) (read : record_of bytes ≡ Whole r n) where
+  module _ (r : Record) (n : ℕ) (read : record_of bytes ≡ Ok (r, n)) where
     some : 0 < length bytes
     some = let f = record_fits bytes read in omega (arith, f)
 
@@ -148,7 +149,7 @@ courses_some turns later s bytes room g h = by (record_of bytes) refl
     to e c = subst (Course s bytes room) (sym e) c
 
     by : (p : Parsed) → record_of bytes ≡ p → Course s bytes room (run_of s bytes room)
-    by (Whole r n) read = fit (leb (length (text_of (answer_to s r))) room) refl
+    by (Ok (r, n)) read = fit (leb (length (text_of (answer_to s r))) room) refl
       where
         fit : (b : Bool) → leb (length (text_of (answer_to s r))) room ≡ b → Course s bytes room (run_of s bytes room)
         fit true q =
@@ -160,8 +161,8 @@ courses_some turns later s bytes room g h = by (record_of bytes) refl
         fit false q =
             let full = leb-false (length (text_of (answer_to s r))) room q in
             to (run_tight s bytes room r n read full) (Tight s bytes room r n read full)
-    by Part e = to (run_lacks s bytes room g (Partly e)) (Lacks s bytes room g (Partly e))
-    by Malformed e = to (run_lacks s bytes room g (Never e)) (Lacks s bytes room g (Never e))
+    by (Err Part) e = to (run_lacks s bytes room g (Partly e)) (Lacks s bytes room g (Partly e))
+    by (Err Malformed) e = to (run_lacks s bytes room g (Never e)) (Lacks s bytes room g (Never e))
 
 courses_next : (turns : ℕ) → Courses turns → Courses (suc turns)
 courses_next turns later s [] room h = subst (Course s [] room) (sym (run_end s room)) (End s room)

@@ -1,4 +1,5 @@
 -- What is shown of a run by its course. Assumes nothing.
+use Rattle.std.specs.Prelude.{Ok, Err}
 use Prim.Native.Nat.{ℕ, ◌+◌, ◌*◌, ◌-◌, ◌≤◌, ◌<◌}
 use native.Mathlib.Nat.{sub-zero}
 use native.Mathlib.Omega.{arith}
@@ -10,10 +11,11 @@ use lib.ListN.{length, drop, take, length-append, length-drop}
 use lib.Seq.{drop-append-le, drop-drop, take-add, length-take-le, drop_at}
 use Rattle.rules.specs.declared.state.State.{State}
 use Rattle.rules.specs.WellFormed.{well_formed}
-use Rattle.rules.proofs.NeverSix.{step_code}
+use Rattle.rules.specs.Codes.{number_of}
+use Rattle.rules.proofs.Codes.{number_small}
 use Rattle.rules.proofs.WellFormed.{steps_well_formed}
 use Rattle.text_rules.specs.declared.record.Record.{Record}
-use Rattle.text_rules.specs.declared.record.Parsed.TheVariants.{Whole, Part}
+use Rattle.text_rules.specs.declared.record.Unread.TheVariants.{Part}
 use Rattle.text_rules.specs.Record.{record_of}
 use Rattle.text_rules.specs.Sizes.{longest_answer, longest_record, shortest_answer, shortest_record}
 use Rattle.text_rules.proofs.Bounded.{part_ends_inside, record_is_bounded}
@@ -29,8 +31,8 @@ pub text_size : (s : State) (r : Record) → (shortest_answer ≤ length (text_o
 unfolding text_of
 text_size s r =
     let a = answer_to s r in
-    let h : a.code < 7 = step_code s (numbers_of r) in
-    (answer_long a.code a.reply a.alert a.therm, answer_short a.code a.reply a.alert a.therm (omega arith))
+    let h : number_of a.code < 7 = number_small a.code in
+    (answer_long (number_of a.code) a.reply a.alert a.therm, answer_short (number_of a.code) a.reply a.alert a.therm (omega arith))
 
 -- how large a run's numbers are
 pub record Sizes (bytes : List ℕ) (room : ℕ) (q : Run) : Type 0 where
@@ -67,7 +69,7 @@ course_well (Lacks s bytes room g l) w = w
 course_well (Tight s bytes room r n read full) w = w
 course_well (Goes s bytes room r n q read fits c) w = course_well c (steps_well_formed s (numbers_of r) w)
 
-further : (s : State) (bytes : List ℕ) (room : ℕ) (r : Record) (n : ℕ) (q : Run) (more : List ℕ) → record_of bytes ≡ Whole r n → length (text_of (answer_to s r)) ≤ room
+further : (s : State) (bytes : List ℕ) (room : ℕ) (r : Record) (n : ℕ) (q : Run) (more : List ℕ) → record_of bytes ≡ Ok (r, n) → length (text_of (answer_to s r)) ≤ room
     → run_of (answer_to s r).state (drop n bytes ++ more) (room - length (text_of (answer_to s r)))
     ≡ after q (run_of q.state (drop q.used (drop n bytes) ++ more) (room - length (text_of (answer_to s r)) - length q.text))
     → run_of s (bytes ++ more) room ≡ after (after (one s r n) q) (run_of q.state (drop (n + q.used) bytes ++ more) (room - length (text_of (answer_to s r) ++ q.text)))
@@ -94,7 +96,7 @@ course_more more (Goes s bytes room r n q read fits c) = further s bytes room r 
 pub data Stop (s : State) (rest : List ℕ) (room : ℕ) : ℕ → Type 0 where
   AtEnd : rest ≡ [] → Stop s rest room 0
   NoRecord : 0 < length rest → Lacking rest → Stop s rest room 7
-  NoRoom : (r : Record) (n : ℕ) → record_of rest ≡ Whole r n → room < length (text_of (answer_to s r)) → Stop s rest room 8
+  NoRoom : (r : Record) (n : ℕ) → record_of rest ≡ Ok (r, n) → room < length (text_of (answer_to s r)) → Stop s rest room 8
 
 pub course_stop : {s : State} {bytes : List ℕ} {room : ℕ} {q : Run} → Course s bytes room q
     → Stop q.state (drop q.used bytes) (room - length q.text) q.code
@@ -107,7 +109,7 @@ course_stop (Goes s bytes room r n q read fits c) =
     rw (← left, ← drop-drop q.used n bytes) (course_stop c)
 
 -- a record that begins in a partial one ends behind it
-pub course_beyond : {s : State} {bytes : List ℕ} {room : ℕ} {q : Run} (part more : List ℕ) → record_of part ≡ Part → bytes ≡ part ++ more → Course s bytes room q
+pub course_beyond : {s : State} {bytes : List ℕ} {room : ℕ} {q : Run} (part more : List ℕ) → record_of part ≡ Err Part → bytes ≡ part ++ more → Course s bytes room q
     → (q.used ≡ 0) ⊎ (length part < q.used)
 course_beyond part more p e (End s room) = inl refl
 course_beyond part more p e (Lacks s bytes room g l) = inl refl
@@ -126,7 +128,7 @@ course_own any (Goes s bytes room r n q read fits c) h =
     let f = record_fits bytes read in
     let text = text_of (answer_to s r) in
     let m : length (text ++ q.text) ≡ length text + length q.text = length-append text q.text in
-    let whole : record_of (take n bytes ++ take q.used (drop n bytes)) ≡ Whole r n = whole_stays (take n bytes) (take q.used (drop n bytes)) (record_is_bounded bytes r n read).own in
+    let whole : record_of (take n bytes ++ take q.used (drop n bytes)) ≡ Ok (r, n) = whole_stays (take n bytes) (take q.used (drop n bytes)) (record_is_bounded bytes r n read).own in
     let rest : drop n (take n bytes ++ take q.used (drop n bytes)) ≡ take q.used (drop n bytes) = drop_at (take n bytes) (take q.used (drop n bytes)) n (length-take-le n bytes f.1) in
     rw (take-add n q.used bytes)
     (run_goes s (take n bytes ++ take q.used (drop n bytes)) any r n whole (omega (arith, m, h))

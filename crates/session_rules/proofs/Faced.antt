@@ -1,49 +1,35 @@
 -- From what the parts of a C call on a session give to what the call promises. Assumes nothing.
+use Rattle.rules.specs.Codes.{number_of}
 use Prim.Native.Nat.{ℕ}
-use native.Mathlib.Omega.{arith}
 use mathlib.Core.Path.{◌≡◌, refl, ap, sym, ◌∙◌}
 use mathlib.Core.Bool.{Bool, cond, true, false, not, ◌&&◌, ◌||◌}
 use mathlib.Core.List.{List, ◌++◌}
 use lib.Dec.{eqb}
 use lib.IntN.{ℤ}
-use lib.IntN.ℤ.{negsuc, pos}
+use lib.IntN.ℤ.{pos}
 use lib.ListN.{length}
-use mir.Syntax.{w32}
-use mir.Val.{SFits, of_z}
 use borrow.Author.Tests.{eq-eqb, ne_eqb}
 use Rattle.rules.proofs.Lists.{no}
 use Rattle.saved_rules.specs.Layout.{same_bytes}
-use Rattle.replay_rules.specs.Replay.{word, written_over}
+use Rattle.blocks.specs.Blocks.{word}
+use Rattle.replay_rules.specs.Replay.{written_over}
 use Rattle.session_rules.specs.declared.session.Fed.{Fed}
 use Rattle.session_rules.specs.declared.session.Opened.{Opened}
 use Rattle.session_rules.specs.declared.session.Session.{Session}
 use Rattle.session_rules.specs.Session.{opened_of}
-use Rattle.session_rules.specs.Portion.{FedOn, feed_of, refused_with, report_after}
+use Rattle.session_rules.specs.Portion.{fed_code, FedOn, feed_of, refused_with, report_after}
 use Rattle.session_rules.specs.Bytes.{bytes_of, bytes_over, held_in, is_held}
 use Rattle.session_rules.specs.Face.{FeedDone, OpenDone, feed_into, is_end, is_flag, open_of, opening_from, progress_over}
 
-pub opened : (address : ℤ) (before : List ℕ) {o : Opened} {after : List ℕ} {r : ℤ} → length before ≡ 256 → o ≡ opened_of address → after ≡ bytes_over (opening_from o).session before → r ≡ pos o.code → OpenDone (open_of address before) r after
+pub opened : (address : ℤ) (before : List ℕ) {o : Opened} {after : List ℕ} {r : ℤ} → length before ≡ 256 → o ≡ opened_of address → after ≡ bytes_over (opening_from o).session before → r ≡ pos (number_of o.code) → OpenDone (open_of address before) r after
 unfolding open_of
 opened address before n m e c =
     rw (eq-eqb (length before) 256 n)
     (record { code = c ∙ rw m; bytes = e ∙ rw (eq-eqb (length before) 256 n, m) })
 
--- a test of a number's bits is one of the number
-pub end_is : (z : ℤ) → SFits w32 z → eqb (of_z w32 z) 1 ≡ is_end z
-end_is (pos n) h = refl
-end_is (negsuc n) h =
-    let p = h.sfits in
-    ne_eqb (of_z w32 (negsuc n)) 1 (λ e. omega (arith, p, e))
-
 either : (p q : Bool) → p || q ≡ cond p true q
 either true q = refl
 either false q = refl
-
-pub flag_is : (z : ℤ) → SFits w32 z → eqb (of_z w32 z) 0 || eqb (of_z w32 z) 1 ≡ is_flag z
-flag_is (pos n) h = either (eqb n 0) (eqb n 1)
-flag_is (negsuc n) h =
-    let p = h.sfits in
-    rw (ne_eqb (of_z w32 (negsuc n)) 0 (λ e. omega (arith, p, e)), ne_eqb (of_z w32 (negsuc n)) 1 (λ e. omega (arith, p, e)))
 
 -- all four tests hold, or one does not
 fitting : (p q r s : Bool) → (((not p || not q) || not r) || not s) ≡ false → (p ≡ true) × (q ≡ true) × (r ≡ true) × (s ≡ true)
@@ -96,9 +82,9 @@ module _ (session portion : List ℕ) (end : ℤ) (output report progress : List
       → code ≡ refused_with s (length portion) → code ≡ 0 → last ≡ is_end end
       → FedOn (feed_of s portion last (length output)) output output' d
       → session' ≡ bytes_over (bytes_of d.session) session
-      → report' ≡ written_over (((word d.code ++ word d.session.records) ++ word d.session.used) ++ word d.session.written) report
+      → report' ≡ written_over (((word (fed_code d.stop) ++ word d.session.records) ++ word d.session.used) ++ word d.session.written) report
       → progress' ≡ progress_over (word d.taken ++ word d.written) progress
-      → r ≡ pos d.code → Done r session' output' report' progress'
+      → r ≡ pos (fed_code d.stop) → Done r session' output' report' progress'
   unfolding feed_into is_held report_after
   fed {d = d} {output' = output'} f h s held t e z l on saved told moved c =
       let fits = fitting (eqb (length session) 256) (eqb (length report) 16) (eqb (length progress) 8) (is_flag end) (rw f at h) in

@@ -1,5 +1,8 @@
 -- A portion's ways out, from what its calls give: the play over what is carried and the portion, and the window on what is left. Assumes
 -- nothing.
+use Rattle.std.specs.Prelude.{Option, Some}
+use Rattle.session_rules.specs.declared.session.Stop.{Stop}
+use Rattle.std.specs.Prelude.{Err}
 use Prim.Native.Nat.{ℕ, zero, suc, min, ◌+◌, ◌-◌, ◌≤◌, ◌<◌}
 use native.Mathlib.Nat.{sub-zero}
 use native.Mathlib.Numerals.{unary_clauses}
@@ -8,25 +11,26 @@ use mathlib.Core.Path.{◌≡◌, refl, sym, ap, ◌∙◌}
 use mathlib.Core.Bool.{Bool, cond, true, false, ◌&&◌, ◌||◌}
 use mathlib.Core.List.{List, [], ◌∷◌, ◌++◌}
 use lib.Dec.{eqb}
-use lib.ListN.{length, drop, take, length-append, length-drop, length-take}
+use lib.ListN.{length, drop, take, length-append, length-take}
 use lib.Seq.{take_all, take-nil}
 use borrow.Author.Tests.{eqb-true, ne_eqb}
-use Rattle.text_rules.specs.declared.record.Parsed.TheVariants.{Part}
+use Rattle.text_rules.specs.declared.record.Unread.TheVariants.{Part}
 use Rattle.text_rules.specs.Record.{record_of}
 use Rattle.text_rules.proofs.Bounded.{part_is_bounded, window_decides}
 use Rattle.replay_rules.specs.declared.play.Played.{Played}
-use Rattle.replay_rules.specs.Play.{Ran, Run, run_of}
+use Rattle.replay_rules.specs.Play.{end_code, Ran, Run, run_of}
 use Rattle.session_rules.specs.declared.session.Session.{Session}
 use Rattle.session_rules.specs.declared.session.Window.{Window}
 use Rattle.session_rules.specs.Session.{carried_of, is_part, padded, partial}
-use Rattle.session_rules.specs.Portion.{Feed, FedOn, all_taken, feed_of, moved_on, refused_with, settled, stopped_at, waits, window_of}
+use Rattle.session_rules.specs.Portion.{fed_code, Feed, FedOn, all_taken, feed_of, moved_on, refused_with, settled, stopped_at, waits, window_of}
 use Rattle.session_rules.proofs.Course.{course}
-use Rattle.session_rules.proofs.Courses.{Stop, course_stop, sizes}
+use Rattle.session_rules.proofs.Courses.{Stop as Stopped, course_stop, sizes}
 use Rattle.session_rules.proofs.Courses.Stop.{AtEnd, NoRecord, NoRoom}
-use Rattle.session_rules.proofs.Windows.{drop_min, shown_count, shown_fits, shown_is}
+use Rattle.session_rules.proofs.Codes.{some_code}
+use Rattle.session_rules.proofs.Windows.{drop_min, shown_is}
 use Rattle.session_rules.proofs.Sessions.{Held, Open, carried_size, held, is_part_lem, looked_at, why}
 
-part_of : (l : List ℕ) → partial l ≡ true → record_of l ≡ Part
+part_of : (l : List ℕ) → partial l ≡ true → record_of l ≡ Err Part
 unfolding partial
 part_of l e = is_part_lem (record_of l) e
 
@@ -55,11 +59,12 @@ moved_by s p ended stopped rest =
     }
 
 module _ (s : Session) (portion : List ℕ) (end : Bool) (before : List ℕ) where
-  pub fed_refused : {code : ℕ} → code ≡ refused_with s (length portion) → (code ≡ 0 → ⊥) → FedOn (feed_of s portion end (length before)) before before (record { code = code; taken = 0; written = 0; session = s })
+  pub fed_refused : {o : Option Stop} (stop : Stop) → fed_code o ≡ refused_with s (length portion) → o ≡ Some stop → FedOn (feed_of s portion end (length before)) before before (record { stop = Some stop; taken = 0; written = 0; session = s })
   unfolding feed_of
-  fed_refused {code} e n =
-      let o : eqb (refused_with s (length portion)) 0 ≡ false = ne_eqb (refused_with s (length portion)) 0 (λ z. n (e ∙ z)) in
-      record { code = rw o e; taken = rw o; written = rw o; session = rw o; bytes = rw o }
+  fed_refused stop e is =
+      let code : fed_code (Some stop) ≡ refused_with s (length portion) = ap fed_code (sym is) ∙ e in
+      let o : eqb (refused_with s (length portion)) 0 ≡ false = ne_eqb (refused_with s (length portion)) 0 (λ z. some_code stop (code ∙ z)) in
+      record { code = rw o code; taken = rw o; written = rw o; session = rw o; bytes = rw o }
 
   module _ (looked : 0 ≡ refused_with s (length portion)) where
     o : Open s (length portion)
@@ -93,11 +98,6 @@ module _ (s : Session) (portion : List ℕ) (end : Bool) (before : List ℕ) whe
             omega (arith, ran.written, ran.records, z.long, z.least, z.inside, n, h.long, h.least, o.total),
           )
 
-      pub same_length : length after ≡ length before
-      same_length =
-          let z = sizes (course s.chip bytes (length before)) in
-          ap length ran.bytes ∙ length-append r.text (drop (length r.text) before) ∙ omega (arith, length-drop (length r.text) before, z.fits)
-
       used_same : p.used ≡ r.used
       used_same = ran.used
 
@@ -125,15 +125,9 @@ module _ (s : Session) (portion : List ℕ) (end : Bool) (before : List ℕ) whe
         seen_is : seen ≡ take 39 left
         seen_is = shown_is (drop p.used bytes) win ∙ ap (λ (k : ℕ). take 39 (drop k bytes)) used_same
 
-        pub seen_fits : w.count ≤ length w.bytes
-        seen_fits = shown_fits (drop p.used bytes) win
-
-        pub seen_count : w.count ≡ length seen
-        seen_count = shown_count (drop p.used bytes) win
-
         module _ {t : Bool} (part : t ≡ partial seen) where
           abbrev waiting : Bool
-          waiting = eqb p.code 7 && t
+          waiting = eqb (end_code p.stop) 7 && t
 
           waiting_is : waiting ≡ waits r bytes
           unfolding partial
@@ -146,10 +140,10 @@ module _ (s : Session) (portion : List ℕ) (end : Bool) (before : List ℕ) whe
           feed_is = rw (← looked) (ap (settled s portion end r) (sym waiting_is))
 
           -- what is left is short where all was taken
-          all_seen : (waiting || eqb p.code 0) ≡ true → seen ≡ left
+          all_seen : (waiting || eqb (end_code p.stop) 0) ≡ true → seen ≡ left
           all_seen h = seen_is ∙ take_all 39 left (by waiting refl h)
             where
-              empty : {code : ℕ} → code ≡ 0 → Stop r.state left (length before - length r.text) code → length left ≤ 39
+              empty : {code : ℕ} → code ≡ 0 → Stopped r.state left (length before - length r.text) code → length left ≤ 39
               empty e (AtEnd z) = omega (arith, ap length z)
               empty e (NoRecord g l) = absurd (omega arith)
               empty e (NoRoom q n read full) = absurd (omega arith)
@@ -158,17 +152,17 @@ module _ (s : Session) (portion : List ℕ) (end : Bool) (before : List ℕ) whe
               short true b e = e
               short false b e = absurd (let x : ◌≡◌ {A = ℕ} 0 1 = cc in omega arith)
 
-              by : (u : Bool) → waiting ≡ u → (u || eqb p.code 0) ≡ true → length left ≤ 39
+              by : (u : Bool) → waiting ≡ u → (u || eqb (end_code p.stop) 0) ≡ true → length left ≤ 39
               by true q h =
                   let b : partial left ≡ true = short (eqb r.code 7) (partial left) (sym waiting_is ∙ q) in
                   omega (arith, part_is_bounded left (part_of left b))
-              by false q h = empty (sym ran.code ∙ eqb-true p.code 0 h) (course_stop (course s.chip bytes (length before)))
+              by false q h = empty (sym ran.code ∙ eqb-true (end_code p.stop) 0 h) (course_stop (course s.chip bytes (length before)))
 
           -- all was taken
-          pub fed_all : (waiting || eqb p.code 0) ≡ true → {code : ℕ} {session : Session} → code ≡ cond (waiting && end) 7 0 → session ≡ moved_by s p end (waiting && end) seen
-              → FedOn (feed_of s portion end (length before)) before after (record { code = code; taken = length portion; written = p.written; session = session })
-          fed_all h {code} {session} c m =
-              let e = feed_is ∙ all waiting (eqb p.code 0) refl refl h in
+          pub fed_all : (waiting || eqb (end_code p.stop) 0) ≡ true → {stop : Option Stop} {session : Session} → fed_code stop ≡ cond (waiting && end) 7 0 → session ≡ moved_by s p end (waiting && end) seen
+              → FedOn (feed_of s portion end (length before)) before after (record { stop = stop; taken = length portion; written = p.written; session = session })
+          fed_all h {stop} {session} c m =
+              let e = feed_is ∙ all waiting (eqb (end_code p.stop) 0) refl refl h in
               record {
                 code = c ∙ sym (ap (λ (f : Feed). f.code) e);
                 taken = sym (ap (λ (f : Feed). f.taken) e);
@@ -177,26 +171,27 @@ module _ (s : Session) (portion : List ℕ) (end : Bool) (before : List ℕ) whe
                 bytes = ran.bytes ∙ sym (ap (λ (f : Feed). f.text ++ drop (length f.text) before) e);
               }
             where
-              all : (u nil : Bool) → waiting ≡ u → eqb p.code 0 ≡ nil → (u || nil) ≡ true → settled s portion end r u ≡ all_taken s portion end r (cond (u && end) 7 0)
+              all : (u nil : Bool) → waiting ≡ u → eqb (end_code p.stop) 0 ≡ nil → (u || nil) ≡ true → settled s portion end r u ≡ all_taken s portion end r (cond (u && end) 7 0)
               all true nil q z h = refl
               all false true q z h = let n : eqb r.code 0 ≡ true = sym (ap (λ (k : ℕ). eqb k 0) ran.code) ∙ z in rw n
               all false false q z h = absurd (let x : ◌≡◌ {A = ℕ} 0 1 = cc in omega arith)
 
           -- it was taken up to a record that is bad, or that waits for room
-          pub fed_stop : (waiting || eqb p.code 0) ≡ false → {m : ℕ} → m ≡ min p.used s.count → {part : List ℕ} → part ≡ take (s.count - m) (drop m s.carried)
-              → {session : Session} → session ≡ moved_by s p false (eqb p.code 7) part
-              → FedOn (feed_of s portion end (length before)) before after (record { code = p.code; taken = p.used - m; written = p.written; session = session })
-          fed_stop h {m} f {part} g {session} k =
-              let e = feed_is ∙ stop waiting (eqb p.code 0) refl refl h in
+          pub fed_stop : (waiting || eqb (end_code p.stop) 0) ≡ false → {m : ℕ} → m ≡ min p.used s.count → {part : List ℕ} → part ≡ take (s.count - m) (drop m s.carried)
+              → {session : Session} → session ≡ moved_by s p false (eqb (end_code p.stop) 7) part
+              → {halt : Option Stop} → fed_code halt ≡ end_code p.stop
+              → FedOn (feed_of s portion end (length before)) before after (record { stop = halt; taken = p.used - m; written = p.written; session = session })
+          fed_stop h {m} f {part} g {session} k o =
+              let e = feed_is ∙ stop waiting (eqb (end_code p.stop) 0) refl refl h in
               record {
-                code = ran.code ∙ sym (ap (λ (x : Feed). x.code) e);
+                code = o ∙ ran.code ∙ sym (ap (λ (x : Feed). x.code) e);
                 taken = omega (arith, f, used_same) ∙ sym (ap (λ (x : Feed). x.taken) e);
                 written = ran.written ∙ sym (ap (λ (x : Feed). length x.text) e);
-                session = k ∙ moved_is false (eqb p.code 7) (eqb r.code 7) (ap (λ (n : ℕ). eqb n 7) ran.code) (g ∙ rest) ∙ sym (ap (λ (x : Feed). x.session) e);
+                session = k ∙ moved_is false (eqb (end_code p.stop) 7) (eqb r.code 7) (ap (λ (n : ℕ). eqb n 7) ran.code) (g ∙ rest) ∙ sym (ap (λ (x : Feed). x.session) e);
                 bytes = ran.bytes ∙ sym (ap (λ (x : Feed). x.text ++ drop (length x.text) before) e);
               }
             where
-              stop : (u nil : Bool) → waiting ≡ u → eqb p.code 0 ≡ nil → (u || nil) ≡ false → settled s portion end r u ≡ stopped_at s r
+              stop : (u nil : Bool) → waiting ≡ u → eqb (end_code p.stop) 0 ≡ nil → (u || nil) ≡ false → settled s portion end r u ≡ stopped_at s r
               stop true nil q z h = absurd (let x : ◌≡◌ {A = ℕ} 0 1 = cc in omega arith)
               stop false true q z h = absurd (let x : ◌≡◌ {A = ℕ} 0 1 = cc in omega arith)
               stop false false q z h = let n : eqb r.code 0 ≡ false = sym (ap (λ (k : ℕ). eqb k 0) ran.code) ∙ z in rw n

@@ -13,7 +13,7 @@ use borrow.Author.Tests.{eq-eqb, eqb-false, eqb-true, ne_eqb}
 use Rattle.saved_rules.specs.Layout.{flag, is_set, same_bytes, save_of, state_at}
 use Rattle.saved_rules.proofs.Same.{are_same, same_self}
 use Rattle.saved_rules.proofs.Saved.{saved_is_loaded}
-use Rattle.replay_rules.specs.Replay.{word_at}
+use Rattle.blocks.specs.Blocks.{word_at}
 use Rattle.replay_rules.proofs.Words.{word_back}
 use Rattle.session_rules.specs.declared.session.Session.{Session}
 use Rattle.session_rules.specs.Session.{carried_of, is_session, opened_of, padded}

@@ -4,6 +4,7 @@ pub mod Courses
 pub mod Windows
 pub mod Held
 pub mod Faced
+pub mod Codes
 pub mod Counts
 pub mod Joins
 pub mod Ways

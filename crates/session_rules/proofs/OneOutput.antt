@@ -1,4 +1,7 @@
 -- A session into one output: by the invariant of a session that calls have reached, and by its bytes. Assumes nothing.
+use Rattle.rules.proofs.Codes.{done_is}
+use Rattle.rules.specs.Codes.{is_done}
+use Rattle.rules.specs.declared.answer.Code.TheVariants.{Done}
 use Prim.Native.Nat.{ℕ, ◌+◌, ◌/◌, ◌≤◌, ◌<◌}
 use native.Mathlib.Nat.{zero-add}
 use native.Mathlib.Omega.{arith}
@@ -10,7 +13,7 @@ use lib.Dec.{eqb}
 use lib.IntN.{ℤ, nat_abs}
 use lib.ListN.{drop, length, replicate, take, length-append, length-drop, length-take}
 use lib.Seq.{drop-append_seam}
-use borrow.Author.Tests.{eq-eqb, eqb-true}
+use borrow.Author.Tests.{eq-eqb}
 use Rattle.rules.specs.declared.state.State.{State}
 use Rattle.rules.specs.PowerOn.{made_of}
 use Rattle.rules.proofs.Lists.{no}
@@ -18,7 +21,7 @@ use Rattle.text_rules.specs.Sizes.{shortest_record}
 use Rattle.saved_rules.specs.Layout.{front_of, same_bytes, save_of, state_at}
 use Rattle.replay_rules.specs.Best.{found_open, started}
 use Rattle.replay_rules.specs.Play.{run_from, run_of}
-use Rattle.replay_rules.specs.Replay.{word, word_at}
+use Rattle.blocks.specs.Blocks.{word, word_at}
 use Rattle.replay_rules.specs.Room.{room_of}
 use Rattle.replay_rules.proofs.Examples as examples
 use Rattle.replay_rules.proofs.Words.{word_back, word_below}
@@ -228,13 +231,13 @@ module _ (address : ℤ) (session output : List ℕ) where
   hand = hand_at address session output
 
   -- an address that is taken, and 256 bytes
-  opens_live : eqb (length session) 256 ≡ true → eqb (opened_of address).code 0 ≡ true → Standing (made_of address).state 0 (length output) hand
+  opens_live : eqb (length session) 256 ≡ true → is_done (opened_of address).code ≡ true → Standing (made_of address).state 0 (length output) hand
   unfolding open_of
   opens_live n q =
-      let made : (made_of address).code ≡ 0 = sym (made_so address) ∙ eqb-true (opened_of address).code 0 q in
+      let made : (made_of address).code ≡ Done = sym (made_so address) ∙ done_is (opened_of address).code q in
       record { session = (opened_of address).session; taken = []; answers = []; reached = opened_reached address made; bytes = rw (n, q); few = omega arith; size = omega arith }
 
-  opens_dead : (fits made : Bool) → eqb (length session) 256 ≡ fits → eqb (opened_of address).code 0 ≡ made → (fits && made) ≡ false → is_held hand.session ≡ false
+  opens_dead : (fits made : Bool) → eqb (length session) 256 ≡ fits → is_done (opened_of address).code ≡ made → (fits && made) ≡ false → is_held hand.session ≡ false
   unfolding open_of
   opens_dead false made n q e = rw n (other_length session n)
   opens_dead true false n q e = rw (n, q) zeros_are_none
@@ -247,24 +250,24 @@ module _ (address : ℤ) (session output : List ℕ) where
     abbrev now : Hand
     now = hand_after hand bs
 
-    standing : eqb (length session) 256 ≡ true → eqb (opened_of address).code 0 ≡ true → Standing (made_of address).state all (length output) now
+    standing : eqb (length session) 256 ≡ true → is_done (opened_of address).code ≡ true → Standing (made_of address).state all (length output) now
     standing n q = subst (λ (k : ℕ). Standing (made_of address).state k (length output) now) (zero-add all) (live_after bs (opens_live n q))
 
-    after : (b : Brought) (fits made : Bool) → eqb (length session) 256 ≡ fits → eqb (opened_of address).code 0 ≡ made → NextCall (all + length b.portion) (length output) now b (handed now b)
+    after : (b : Brought) (fits made : Bool) → eqb (length session) 256 ≡ fits → is_done (opened_of address).code ≡ made → NextCall (all + length b.portion) (length output) now b (handed now b)
     after b true true n q = (next_live (made_of address).state all (length output) now b (standing n q)).0
     after b true false n q = (next_dead (made_of address).state all (length output) now b (dead_after bs hand (made_of address).state (opens_dead true false n q refl))).0
     after b false made n q = (next_dead (made_of address).state all (length output) now b (dead_after bs hand (made_of address).state (opens_dead false made n q refl))).0
 
     -- what the session's bytes count as written
-    whole : length session ≡ 256 → (made_of address).code ≡ 0 → word_at now.session 12 + length now.left ≡ length output
+    whole : length session ≡ 256 → (made_of address).code ≡ Done → word_at now.session 12 + length now.left ≡ length output
     whole n made =
-        let st = standing (eq-eqb (length session) 256 n) (eq-eqb (opened_of address).code 0 (made_so address ∙ made)) in
+        let st = standing (eq-eqb (length session) 256 n) (ap is_done (made_so address ∙ made)) in
         let c : word_at now.session 12 ≡ st.session.written = ap (λ (x : List ℕ). word_at x 12) st.bytes ∙ counted st.session st.reached.held in
         omega (arith, c, st.reached.written, st.size)
 
 pub into_one : IntoOne
 into_one address session output bs =
-    record { next = λ b. after address session output bs b (eqb (length session) 256) (eqb (opened_of address).code 0) refl refl; whole = whole address session output bs }
+    record { next = λ b. after address session output bs b (eqb (length session) 256) (is_done (opened_of address).code) refl refl; whole = whole address session output bs }
 
 pub hands_mean : HandsMean
 unfolding examples.opened bytes_of feed_into feed_of found_open four_calls front_of hand_after head_of held_in is_held is_session open_of opened_of partial refused_with report_after run_from run_of same_bytes save_of started state_at

@@ -1,4 +1,8 @@
 -- What a portion gives, in other words: by the ways that it ends. Assumes nothing.
+use Rattle.session_rules.proofs.Codes.{feeds, one_stop}
+use Rattle.std.specs.Prelude.{Ok, Err}
+use Rattle.rules.specs.Codes.{number_of as code_number}
+use Rattle.rules.specs.declared.answer.Code.TheVariants.{BadField}
 use Prim.Native.Nat.{ℕ, ◌+◌, ◌-◌, ◌<◌, ◌≤◌}
 use native.Mathlib.Omega.{arith}
 use mathlib.Core.Path.{◌≡◌, refl, sym, ap, subst, ◌∙◌}
@@ -15,7 +19,7 @@ use Rattle.rules.specs.declared.state.State.{State}
 use Rattle.rules.specs.PowerOn.{all_zero, is_address, made_at, made_of, no_state}
 use Rattle.rules.specs.WellFormed.{well_formed}
 use Rattle.text_rules.specs.declared.record.Record.{Record}
-use Rattle.text_rules.specs.declared.record.Parsed.TheVariants.{Whole, Part, Malformed}
+use Rattle.text_rules.specs.declared.record.Unread.TheVariants.{Part, Malformed}
 use Rattle.text_rules.specs.Number.{digits_of, number_of, plain_of}
 use Rattle.text_rules.specs.Line.{fit_of, line_of}
 use Rattle.text_rules.specs.Record.{record_of}
@@ -43,8 +47,9 @@ partial_means = (refl, refl)
 pub portion_promise : PortionPromise
 portion_promise s portion end before =
     record {
-      met = record { code = refl; taken = refl; written = refl; session = refl; bytes = refl };
-      one = λ after r f. (λ i. record { code = f.code i; taken = f.taken i; written = f.written i; session = f.session i }, f.bytes);
+      stop = (feeds s portion end (length before)).0;
+      met = record { code = (feeds s portion end (length before)).1; taken = refl; written = refl; session = refl; bytes = refl };
+      one = λ after r f. (λ i. record { stop = one_stop _ _ (f.code ∙ sym (feeds s portion end (length before)).1) i; taken = f.taken i; written = f.written i; session = f.session i }, f.bytes);
     }
 
 -- ---- Sessions ----
@@ -60,15 +65,15 @@ pub opening_means : OpeningMeans
 unfolding opened_of is_session
 opening_means address = record { fresh = λ e. rw e; none = λ e. (e, refl, by address e) }
   where
-    none : (a : ℕ) (t : Bool) → is_address a ≡ t → (cond t (made_at a) no_state).code ≡ 2 → well_formed (cond t (made_at a) no_state).state ≡ false
-    none a true q e = absurd (omega arith)
+    none : (a : ℕ) (t : Bool) → is_address a ≡ t → (cond t (made_at a) no_state).code ≡ BadField → well_formed (cond t (made_at a) no_state).state ≡ false
+    none a true q e = absurd (omega (arith, ap code_number e))
     none a false q e = zero_none
 
-    zeros : (address : ℤ) → (made_of address).code ≡ 2 → well_formed (made_of address).state ≡ false
+    zeros : (address : ℤ) → (made_of address).code ≡ BadField → well_formed (made_of address).state ≡ false
     zeros (pos a) e = none a (is_address a) refl e
     zeros (negsuc n) e = zero_none
 
-    by : (address : ℤ) → (made_of address).code ≡ 2 → is_session (opened_from (made_of address).state) ≡ false
+    by : (address : ℤ) → (made_of address).code ≡ BadField → is_session (opened_from (made_of address).state) ≡ false
     by address e = rw (zeros address e)
 
 pub sessions_are : SessionsAre
@@ -181,25 +186,25 @@ module _ (s : Session) (portion : List ℕ) (end : Bool) (room : ℕ) (ready : R
   early : (left ≡ [] → ⊥) → (o : Open s (length portion)) → s.ended ≡ false
   early n o = not_ended s portion end room h o n
 
-  not_nil : (record_of left ≡ Part → ⊥) → left ≡ [] → ⊥
+  not_nil : (record_of left ≡ Err Part → ⊥) → left ≡ [] → ⊥
   not_nil n z = n (ap record_of z ∙ part_nil)
 
   some_left : 0 < length left → left ≡ [] → ⊥
   some_left g z = omega (arith, g, ap length z)
 
-  clash : {A : Type 0} → record_of left ≡ Part → (record_of left ≡ Part → ⊥) → A
+  clash : {A : Type 0} → record_of left ≡ Err Part → (record_of left ≡ Err Part → ⊥) → A
   clash p n = absurd (n p)
 
-  no_bad : record_of left ≡ Malformed → record_of left ≡ Part → ⊥
+  no_bad : record_of left ≡ Err Malformed → record_of left ≡ Err Part → ⊥
   no_bad e p = let x : ◌≡◌ {A = ℕ} 0 1 = cc in omega arith
 
-  no_whole : {q : Record} {n : ℕ} → record_of left ≡ Whole q n → record_of left ≡ Part → ⊥
+  no_whole : {q : Record} {n : ℕ} → record_of left ≡ Ok (q, n) → record_of left ≡ Err Part → ⊥
   no_whole e p = let x : ◌≡◌ {A = ℕ} 0 1 = cc in omega arith
 
-  bad_whole : {q : Record} {n : ℕ} → record_of left ≡ Whole q n → record_of left ≡ Malformed → ⊥
+  bad_whole : {q : Record} {n : ℕ} → record_of left ≡ Ok (q, n) → record_of left ≡ Err Malformed → ⊥
   bad_whole e p = let x : ◌≡◌ {A = ℕ} 0 1 = cc in omega arith
 
-  nil_part : left ≡ [] → record_of left ≡ Part
+  nil_part : left ≡ [] → record_of left ≡ Err Part
   nil_part z = ap record_of z ∙ part_nil
 
   abbrev moved : Bool → Bool → ℕ → List ℕ → Session
@@ -217,7 +222,7 @@ module _ (s : Session) (portion : List ℕ) (end : Bool) (room : ℕ) (ready : R
   through z ended a b o _ (Bad e p) = absurd (no_bad p (nil_part z))
   through z ended a b o _ (Full e q n read full) = absurd (no_whole read (nil_part z))
 
-  waits : 0 < length left → record_of left ≡ Part → (o : Open s (length portion)) (f : Feed) → Way s portion end room r f
+  waits : 0 < length left → record_of left ≡ Err Part → (o : Open s (length portion)) (f : Feed) → Way s portion end room r f
       → f ≡ record { code = cond end 7 0; taken = length portion; text = r.text; session = moved end (eqb (cond end 7 0) 7) (length left) (left ++ replicate (38 - length left) 0) }
   waits g p o _ (Through e l) = absurd (some_left g l)
   waits g p o _ (Waits e g' p') = same_feed refl refl refl (same_session refl refl refl refl (ap (λ (t : Bool). t || end) (early (some_left g) o)) refl refl (padded_is left (part_is_bounded left p)))
@@ -225,7 +230,7 @@ module _ (s : Session) (portion : List ℕ) (end : Bool) (room : ℕ) (ready : R
   waits g p o _ (Full e q n read full) = absurd (no_whole read p)
 
   -- stopped before a record, and what was carried is used up or untouched
-  stops : (record_of left ≡ Part → ⊥) → (o : Open s (length portion)) (f : Feed) → Way s portion end room r f
+  stops : (record_of left ≡ Err Part → ⊥) → (o : Open s (length portion)) (f : Feed) → Way s portion end room r f
       → f ≡ record { code = r.code; taken = r.used - s.count; text = r.text; session = moved false (eqb r.code 7) (length (drop r.used (carried_of s))) (padded (drop r.used (carried_of s))) }
   stops n o _ (Through e l) = absurd (n (nil_part l))
   stops n o _ (Waits e g p) = absurd (n p)
@@ -233,7 +238,7 @@ module _ (s : Session) (portion : List ℕ) (end : Bool) (room : ℕ) (ready : R
   stops n o _ (Full e q m read full) = same_feed refl refl refl (same_session refl refl refl refl (or-false s.ended ∙ early (not_nil n) o) refl refl refl)
 
   -- the code says which
-  code_bad : record_of left ≡ Malformed → r.code ≡ 7
+  code_bad : record_of left ≡ Err Malformed → r.code ≡ 7
   code_bad p = looked (λ f. r.code ≡ 7) by
     where
       by : (o : Open s (length portion)) (f : Feed) → Way s portion end room r f → r.code ≡ 7
@@ -242,7 +247,7 @@ module _ (s : Session) (portion : List ℕ) (end : Bool) (room : ℕ) (ready : R
       by o _ (Bad e p') = e
       by o _ (Full e q n read full) = absurd (bad_whole read p)
 
-  code_full : {q : Record} {n : ℕ} → record_of left ≡ Whole q n → r.code ≡ 8
+  code_full : {q : Record} {n : ℕ} → record_of left ≡ Ok (q, n) → r.code ≡ 8
   code_full p = looked (λ f. r.code ≡ 8) by
     where
       by : (o : Open s (length portion)) (f : Feed) → Way s portion end room r f → r.code ≡ 8
@@ -277,7 +282,7 @@ module _ (s : Session) (portion : List ℕ) (end : Bool) (room : ℕ) (ready : R
   abbrev halted : Feed
   halted = record { code = r.code; taken = r.used - s.count; text = r.text; session = moved false (eqb r.code 7) (length (drop r.used (carried_of s))) (padded (drop r.used (carried_of s))) }
 
-  stopping : (record_of left ≡ Part → ⊥) → feed_of s portion end room ≡ halted
+  stopping : (record_of left ≡ Err Part → ⊥) → feed_of s portion end room ≡ halted
   stopping n = looked (λ f. f ≡ halted) (stops n)
 
   behind : 0 < r.used → {code : ℕ} → r.code ≡ code → halted ≡ record { code = code; taken = r.used - s.count; text = r.text; session = moved false (eqb code 7) 0 (replicate 38 0) }

@@ -1,5 +1,7 @@
 -- The invariant of a session that calls have reached: the run over the bytes that were used is at its end with the session's counts, the
 -- answers joined and the chip; behind those bytes stands what is carried. Assumes nothing.
+use Rattle.std.specs.Prelude.{Err}
+use Rattle.rules.specs.declared.answer.Code.TheVariants.{Done}
 use Prim.Native.Nat.{ℕ, ◌+◌, ◌-◌, ◌≤◌}
 use native.Mathlib.Omega.{arith}
 use mathlib.Core.Path.{◌≡◌, refl, sym, ap, subst, ◌∙◌}
@@ -11,7 +13,7 @@ use lib.ListN.{length, drop, take, drop_of_length-le, length-append, length-take
 use borrow.Author.Tests.{ne_eqb}
 use Rattle.rules.specs.declared.state.State.{State}
 use Rattle.rules.specs.PowerOn.{made_of}
-use Rattle.text_rules.specs.declared.record.Parsed.TheVariants.{Part}
+use Rattle.text_rules.specs.declared.record.Unread.TheVariants.{Part}
 use Rattle.text_rules.specs.Record.{record_of}
 use Rattle.replay_rules.specs.Play.{Run, run_of}
 use Rattle.replay_rules.specs.Room.{room_of}
@@ -61,7 +63,7 @@ module _ {from : State} {s : Session} {taken answers : List ℕ} (h : Reached fr
       ap (λ (l : List ℕ). run_of from l room) h.whole ∙ join (carried_of s) room fits ∙ ap (after (stand s answers 0)) (by (carried_of s) s.count (carried_size s h.held) h.held.part)
       ∙ after_halt (stand s answers 0) (cond (eqb s.count 0) 0 7)
     where
-      by : (l : List ℕ) (n : ℕ) → length l ≡ n → record_of l ≡ Part → run_of s.chip l (room - length answers) ≡ halt s.chip (cond (eqb n 0) 0 7)
+      by : (l : List ℕ) (n : ℕ) → length l ≡ n → record_of l ≡ Err Part → run_of s.chip l (room - length answers) ≡ halt s.chip (cond (eqb n 0) 0 7)
       by [] n e p = rw (sym e) (run_end s.chip (room - length answers))
       by (x ∷ l) n e p = rw (ne_eqb n 0 (λ z. omega (arith, z, e))) (run_lacks s.chip (x ∷ l) (room - length answers) (omega arith) (Partly p))
 
@@ -108,10 +110,10 @@ calls_reached (c ∷ cs) {from} {s} {taken} {answers} h =
     (subst (λ (x : List ℕ). Reached from (session_after t cs) ((taken ++ take (fed s c).taken c.portion) ++ taken_after t cs) x) (append_assoc answers (fed s c).text (answers_after t cs))
     (calls_reached cs (fed_reached h c)))
 
-pub opened_reached : (address : ℤ) → (made_of address).code ≡ 0 → Reached (made_of address).state (opened address) [] []
+pub opened_reached : (address : ℤ) → (made_of address).code ≡ Done → Reached (made_of address).state (opened address) [] []
 unfolding opened_of
 opened_reached address e =
     record { through = []; done = λ room fits. run_end (made_of address).state room; size = refl; written = refl; held = opened_held address e; whole = refl }
 
-pub reached : (address : ℤ) → (made_of address).code ≡ 0 → (cs : List Call) → Reached (made_of address).state (session_after (opened address) cs) (taken_after (opened address) cs) (answers_after (opened address) cs)
+pub reached : (address : ℤ) → (made_of address).code ≡ Done → (cs : List Call) → Reached (made_of address).state (session_after (opened address) cs) (taken_after (opened address) cs) (answers_after (opened address) cs)
 reached address e cs = calls_reached cs (opened_reached address e)

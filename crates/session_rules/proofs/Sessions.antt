@@ -1,4 +1,6 @@
 -- What being a session says, and that a portion leaves one. Assumes nothing.
+use Rattle.std.specs.Prelude.{Ok, Err}
+use Rattle.rules.specs.declared.answer.Code.TheVariants.{Done}
 use Prim.Native.Nat.{ℕ, ◌+◌, ◌*◌, ◌-◌, ◌≤◌, ◌<◌}
 use native.Mathlib.Omega.{arith}
 use mathlib.Core.Path.{◌≡◌, refl, sym, ap, ◌∙◌}
@@ -12,8 +14,8 @@ use borrow.Author.Tests.{eqb-false, eqb-true, le-leb, leb-true, lt-ltb, ltb-fals
 use Rattle.rules.specs.PowerOn.{made_of}
 use Rattle.rules.specs.WellFormed.{well_formed}
 use Rattle.rules.proofs.WellFormed.{fresh_well_formed}
-use Rattle.text_rules.specs.declared.record.Parsed.{Parsed}
-use Rattle.text_rules.specs.declared.record.Parsed.TheVariants.{Whole, Part, Malformed}
+use Rattle.text_rules.specs.Record.{Parsed}
+use Rattle.text_rules.specs.declared.record.Unread.TheVariants.{Part, Malformed}
 use Rattle.text_rules.specs.Record.{record_of}
 use Rattle.text_rules.specs.Sizes.{longest_answer, longest_record, shortest_answer, shortest_record}
 use Rattle.text_rules.proofs.Bounded.{part_is_bounded}
@@ -35,10 +37,10 @@ both false b e = absurd (let y : ◌≡◌ {A = ℕ} 0 1 = cc in omega arith)
 and : {a b : Bool} → a ≡ true → b ≡ true → (a && b) ≡ true
 and e f = rw (e, f)
 
-pub is_part_lem : (p : Parsed) → is_part p ≡ true → p ≡ Part
-is_part_lem (Whole r n) e = absurd (let y : ◌≡◌ {A = ℕ} 0 1 = cc in omega arith)
-is_part_lem Part e = refl
-is_part_lem Malformed e = absurd (let y : ◌≡◌ {A = ℕ} 0 1 = cc in omega arith)
+pub is_part_lem : (p : Parsed) → is_part p ≡ true → p ≡ Err Part
+is_part_lem (Ok (r, n)) e = absurd (let y : ◌≡◌ {A = ℕ} 0 1 = cc in omega arith)
+is_part_lem (Err Part) e = refl
+is_part_lem (Err Malformed) e = absurd (let y : ◌≡◌ {A = ℕ} 0 1 = cc in omega arith)
 
 -- a session, field by field
 pub record Held (s : Session) : Type 0 where
@@ -50,7 +52,7 @@ pub record Held (s : Session) : Type 0 where
   pub total : s.used + s.count ≤ 16777216
   pub few : s.count ≤ 38
   pub padding : padded (carried_of s) ≡ s.carried
-  pub part : record_of (carried_of s) ≡ Part
+  pub part : record_of (carried_of s) ≡ Err Part
   pub end : end_fits s ≡ true
 
 four : (a b c d : Bool) → (a && b && c && d) ≡ true → (a ≡ true) × (b ≡ true) × (c ≡ true) × (d ≡ true)
@@ -100,7 +102,7 @@ carried_size s h =
     omega (arith, n, m, k, length-take 38 (carried_of s), length-take s.count s.carried, h.few)
 
 -- a session that was just opened is one
-pub opened_held : (address : ℤ) → (made_of address).code ≡ 0 → Held (opened_of address).session
+pub opened_held : (address : ℤ) → (made_of address).code ≡ Done → Held (opened_of address).session
 unfolding opened_of
 opened_held address e =
     record {
@@ -220,8 +222,8 @@ module _ (s : Session) (portion : List ℕ) (end : Bool) (room : ℕ) (h : Held 
       by : (t : Bool) → cond t (cond (eqb (cond t 7 0) 7) true (eqb (length left) 0)) true ≡ true
       by true = refl
       by false = refl
-  ends (Bad e p) = rw (not_ended (λ z. let y : record_of left ≡ Part = rw z part_nil in (let x : ◌≡◌ {A = ℕ} 0 1 = cc in omega arith)))
-  ends (Full e q n read full) = rw (not_ended (λ z. let y : record_of left ≡ Part = rw z part_nil in (let x : ◌≡◌ {A = ℕ} 0 1 = cc in omega arith)))
+  ends (Bad e p) = rw (not_ended (λ z. let y : record_of left ≡ Err Part = rw z part_nil in (let x : ◌≡◌ {A = ℕ} 0 1 = cc in omega arith)))
+  ends (Full e q n read full) = rw (not_ended (λ z. let y : record_of left ≡ Err Part = rw z part_nil in (let x : ◌≡◌ {A = ℕ} 0 1 = cc in omega arith)))
 
   pub way_held : {f : Feed} → Way s portion end room run f → Held f.session
   way_held {f} w =

@@ -1,5 +1,6 @@
 -- What a portion that is looked at comes to: all of it is taken, at the end of its records or at a partial one; or it is taken up to a
 -- record that is bad, or up to one that waits for room. Assumes nothing.
+use Rattle.std.specs.Prelude.{Ok, Err}
 use Prim.Native.Nat.{ℕ, ◌+◌, ◌-◌, ◌≤◌, ◌<◌}
 use native.Mathlib.Omega.{arith}
 use mathlib.Core.Path.{◌≡◌, refl, sym, ap, subst, ◌∙◌}
@@ -9,7 +10,7 @@ use mathlib.Core.List.{List, [], ◌++◌, append-nil}
 use lib.ListN.{length, drop, take, drop_of_length-le, length-append, replicate, take-append-drop}
 use lib.Seq.{take_all, take-append-add, take-append_seam}
 use Rattle.text_rules.specs.declared.record.Record.{Record}
-use Rattle.text_rules.specs.declared.record.Parsed.TheVariants.{Whole, Part, Malformed}
+use Rattle.text_rules.specs.declared.record.Unread.TheVariants.{Part, Malformed}
 use Rattle.text_rules.specs.Line.{fit_of, line_of}
 use Rattle.text_rules.specs.Record.{record_of}
 use Rattle.text_rules.proofs.Bounded.{part_is_bounded}
@@ -22,7 +23,7 @@ use Rattle.session_rules.proofs.Course.Lacking.{Never, Partly}
 use Rattle.session_rules.proofs.Courses.{Stop, course_beyond, course_stop, sizes}
 use Rattle.session_rules.proofs.Courses.Stop.{AtEnd, NoRecord, NoRoom}
 
-pub part_nil : record_of [] ≡ Part
+pub part_nil : record_of [] ≡ Err Part
 unfolding record_of line_of fit_of
 part_nil = refl
 
@@ -35,9 +36,9 @@ module _ (s : Session) (portion : List ℕ) (end : Bool) (room : ℕ) (r : Run) 
 
   pub data Way : Feed → Type 0 where
     Through : r.code ≡ 0 → left ≡ [] → Way (all_taken s portion end r 0)
-    Waits : r.code ≡ 7 → 0 < length left → record_of left ≡ Part → Way (all_taken s portion end r (cond end 7 0))
-    Bad : r.code ≡ 7 → record_of left ≡ Malformed → Way (stopped_at s r)
-    Full : r.code ≡ 8 → (q : Record) (n : ℕ) → record_of left ≡ Whole q n → room - length r.text < length (text_of (answer_to r.state q)) → Way (stopped_at s r)
+    Waits : r.code ≡ 7 → 0 < length left → record_of left ≡ Err Part → Way (all_taken s portion end r (cond end 7 0))
+    Bad : r.code ≡ 7 → record_of left ≡ Err Malformed → Way (stopped_at s r)
+    Full : r.code ≡ 8 → (q : Record) (n : ℕ) → record_of left ≡ Ok (q, n) → room - length r.text < length (text_of (answer_to r.state q)) → Way (stopped_at s r)
 
   pub way : Course s.chip bytes room r → Way (settled s portion end r (waits r bytes))
   unfolding partial
@@ -68,7 +69,7 @@ carried_back rest h = rw (take_all 38 rest h) (take-append_seam rest (replicate 
 -- what was taken is what was used and what is carried; a partial record is carried
 pub record Moved (s : Session) (portion : List ℕ) (r : Run) (f : Feed) : Type 0 where
   pub rest : List ℕ
-  pub part : record_of rest ≡ Part
+  pub part : record_of rest ≡ Err Part
   pub split : carried_of s ++ take f.taken portion ≡ take r.used (carried_of s ++ portion) ++ rest
   pub inside : f.taken ≤ length portion
   pub count : f.session.count ≡ length rest
@@ -84,8 +85,8 @@ moved_back {f} m =
     ap (λ (n : ℕ). take n f.session.carried) m.count ∙ ap (take (length m.rest)) m.holds
     ∙ carried_back m.rest (part_is_bounded m.rest m.part)
 
-module _ (s : Session) (portion : List ℕ) (end : Bool) (room : ℕ) (r : Run) (c : Course s.chip (carried_of s ++ portion) room r) (size : length (carried_of s) ≡ s.count) (part : record_of (carried_of s) ≡ Part) where
-  all_moved : (code : ℕ) → record_of (drop r.used (carried_of s ++ portion)) ≡ Part → Moved s portion r (all_taken s portion end r code)
+module _ (s : Session) (portion : List ℕ) (end : Bool) (room : ℕ) (r : Run) (c : Course s.chip (carried_of s ++ portion) room r) (size : length (carried_of s) ≡ s.count) (part : record_of (carried_of s) ≡ Err Part) where
+  all_moved : (code : ℕ) → record_of (drop r.used (carried_of s ++ portion)) ≡ Err Part → Moved s portion r (all_taken s portion end r code)
   all_moved code p =
       record {
         rest = drop r.used (carried_of s ++ portion);

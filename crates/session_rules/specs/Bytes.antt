@@ -1,7 +1,7 @@
 -- A session in 256 bytes: the layout's number first, the chip's 128 bytes last, and 0 where a byte has no meaning. Assumes nothing.
-use Rattle.std.specs.Prelude.{ℕ, ◌%◌, Bool, cond, List, [], ◌∷◌, ◌++◌, eqb, drop, get_or, length, replicate}
+use Rattle.std.specs.Prelude.{ℕ, ◌%◌, Bool, List, [], ◌∷◌, ◌++◌, drop, get_or, replicate}
 use Rattle.saved_rules.specs.Layout.{flag, is_set, same_bytes, save_of, state_at}
-use Rattle.replay_rules.specs.Replay.{word, word_at}
+use Rattle.blocks.specs.Blocks.{over, word, word_at}
 use Rattle.session_rules.specs.declared.session.Session.{Session}
 use Rattle.session_rules.specs.Session.{carried_of, padded}
 
@@ -19,7 +19,7 @@ bytes_of s = head_of s ++ save_of s.chip
 
 -- any other length is left as it is
 abbrev pub bytes_over : List ℕ → List ℕ → List ℕ
-bytes_over bytes before = cond (eqb (length before) 256) bytes before
+bytes_over = over 256
 
 unfoldable pub held_in : List ℕ → Session
 held_in b =

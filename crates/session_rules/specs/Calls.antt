@@ -1,10 +1,11 @@
 -- Document 02, item 1, over every list of calls: "However the trace is cut, once no answer waits for room, the answers joined, the end state
 -- and the final report equal those of one replay over the whole with room enough". Proofs in proofs/Calls.antt. Assumes nothing.
+use Rattle.std.specs.Prelude.{Ok}
+use Rattle.rules.specs.declared.answer.Code.TheVariants.{Done}
 use Rattle.std.specs.Prelude.{ℕ, ◌+◌, ◌-◌, ◌≤◌, ◌<◌, ◌≡◌, Bool, false, true, List, [], ◌∷◌, ◌++◌, map, ℤ, drop, length, take}
 use Rattle.rules.specs.Alarm.{Demand, Shows}
 use Rattle.rules.specs.PowerOn.{made_of}
 use Rattle.text_rules.specs.declared.record.Record.{Record}
-use Rattle.text_rules.specs.declared.record.Parsed.TheVariants.{Whole}
 use Rattle.text_rules.specs.Record.{record_of}
 use Rattle.text_rules.specs.Sizes.{longest_answer}
 use Rattle.replay_rules.specs.Alarms.{history_at, run_at}
@@ -68,12 +69,12 @@ pub record AsOne (address : ℤ) (cs : List Call) (room : ℕ) : Type 0 where
 
 abbrev pub EveryMoment : Type 0
 EveryMoment =
-    (address : ℤ) → (made_of address).code ≡ 0 → (cs : List Call) (room : ℕ) → room_of (length (taken_at address cs)) ≤ room
+    (address : ℤ) → (made_of address).code ≡ Done → (cs : List Call) (room : ℕ) → room_of (length (taken_at address cs)) ≤ room
     → AsOne address cs room
 
 -- what calls leave is a session again, so that code 6 is never given
 abbrev pub StaysSession : Type 0
-StaysSession = (address : ℤ) → (made_of address).code ≡ 0 → (cs : List Call) → is_session (session_at address cs) ≡ true
+StaysSession = (address : ℤ) → (made_of address).code ≡ Done → (cs : List Call) → is_session (session_at address cs) ≡ true
 
 -- ---- At the end ----
 
@@ -86,7 +87,7 @@ pub record AtEnd (address : ℤ) (cs : List Call) (c : Call) (room : ℕ) : Type
 
 abbrev pub EndIsWhole : Type 0
 EndIsWhole =
-    (address : ℤ) → (made_of address).code ≡ 0 → (cs : List Call) (c : Call) → (fed (session_at address cs) c).session.ended ≡ true
+    (address : ℤ) → (made_of address).code ≡ Done → (cs : List Call) (c : Call) → (fed (session_at address cs) c).session.ended ≡ true
     → ((fed (session_at address cs) c).code ≡ 9 → ⊥) → (room : ℕ) → room_of (length (taken_at address cs ++ c.portion)) ≤ room
     → AtEnd address cs c room
 
@@ -105,7 +106,7 @@ pub record AtOnce (address : ℤ) (cs : List Call) (c : Call) (trace : List ℕ)
 
 abbrev pub BadAtOnce : Type 0
 BadAtOnce =
-    (address : ℤ) → (made_of address).code ≡ 0 → (cs : List Call) (c : Call) (more : List ℕ) (room : ℕ)
+    (address : ℤ) → (made_of address).code ≡ Done → (cs : List Call) (c : Call) (more : List ℕ) (room : ℕ)
     → (session_at address cs).stopped ≡ false → (fed (session_at address cs) c).code ≡ 7 → (fed (session_at address cs) c).session.ended ≡ false
     → room_of (length (taken_at address cs ++ (c.portion ++ more))) ≤ room
     → AtOnce address cs c (taken_at address cs ++ (c.portion ++ more)) room
@@ -117,7 +118,7 @@ BadAtOnce =
 pub record Waiting (s : Session) (c : Call) (f : Feed) : Type 0 where
   pub numbers : Record
   pub size : ℕ
-  pub whole : record_of (carried_of f.session ++ drop f.taken c.portion) ≡ Whole numbers size
+  pub whole : record_of (carried_of f.session ++ drop f.taken c.portion) ≡ Ok (numbers, size)
   pub full : c.room - length f.text < length (text_of (answer_to f.session.chip numbers))
   pub end : f.session.ended ≡ s.ended
   pub stopped : f.session.stopped ≡ false
@@ -177,7 +178,7 @@ pub record OneReplay (address : ℤ) (trace : List ℕ) (cs : List Call) (f : Fe
 
 abbrev pub HoweverCut : Type 0
 HoweverCut =
-    (address : ℤ) → (made_of address).code ≡ 0 → (trace : List ℕ) → length trace ≤ 16777216 → (offers : List Offer) (room : ℕ) → room_of (length trace) ≤ room
+    (address : ℤ) → (made_of address).code ≡ Done → (trace : List ℕ) → length trace ≤ 16777216 → (offers : List Offer) (room : ℕ) → room_of (length trace) ≤ room
     → (session_at address (calls_at address trace offers)).stopped ≡ false
     → OneReplay address trace (calls_at address trace offers) (fed (session_at address (calls_at address trace offers)) (last_at address trace offers room)) room
 
@@ -190,5 +191,5 @@ pub record InSession (address : ℤ) (cs : List Call) (room : ℕ) : Type 0 wher
 
 abbrev pub SessionNoAlarmLost : Type 0
 SessionNoAlarmLost =
-    (address : ℤ) → (made_of address).code ≡ 0 → (cs : List Call) (room : ℕ) → room_of (length (taken_at address cs)) ≤ room
+    (address : ℤ) → (made_of address).code ≡ Done → (cs : List Call) (room : ℕ) → room_of (length (taken_at address cs)) ≤ room
     → InSession address cs room

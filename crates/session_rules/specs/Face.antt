@@ -1,8 +1,9 @@
 -- What a C program's two calls on a session leave in every byte that it lends. Assumes nothing.
+use Rattle.rules.specs.Codes.{is_done, number_of}
 use Rattle.std.specs.Prelude.{ℕ, ◌≡◌, Bool, cond, false, true, ◌&&◌, List, ◌++◌, eqb, ℤ, length, replicate}
 use Rattle.std.proofs.Math.IntN.ℤ.{negsuc, pos}
 use Rattle.text_rules.specs.Answer.{put}
-use Rattle.replay_rules.specs.Replay.{word}
+use Rattle.blocks.specs.Blocks.{over, word}
 use Rattle.session_rules.specs.declared.session.Opened.{Opened}
 use Rattle.session_rules.specs.Session.{opened_of}
 use Rattle.session_rules.specs.Portion.{Feed, feed_of, refused_with, report_after}
@@ -16,7 +17,7 @@ pub record Opening : Type 0 where
 
 -- a bad address is code 2 and leaves zeros, which are no session
 abbrev pub opening_from : Opened → Opening
-opening_from o = record { code = o.code; session = cond (eqb o.code 0) (bytes_of o.session) (replicate 256 0) }
+opening_from o = record { code = number_of o.code; session = cond (is_done o.code) (bytes_of o.session) (replicate 256 0) }
 
 -- of another length nothing is written
 unfoldable pub open_of : ℤ → List ℕ → Opening
@@ -49,7 +50,7 @@ abbrev pub progress_of : Feed → List ℕ
 progress_of f = word f.taken ++ word (length f.text)
 
 abbrev pub progress_over : List ℕ → List ℕ → List ℕ
-progress_over progress before = cond (eqb (length before) 8) progress before
+progress_over = over 8
 
 -- a refusal writes nothing in any buffer
 abbrev pub nothing : ℕ → List ℕ → List ℕ → List ℕ → List ℕ → Feeding

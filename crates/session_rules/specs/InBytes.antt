@@ -1,8 +1,9 @@
 -- What is shown of a session in bytes, and of the two calls on it. Proofs in proofs/InBytes.antt. Assumes nothing.
+use Rattle.rules.specs.declared.answer.Code.TheVariants.{Done, BadField}
 use Rattle.std.specs.Prelude.{ℕ, ◌≡◌, Bool, cond, false, true, List, [], ◌∷◌, ◌++◌, map, ℤ, drop, length, replicate}
 use Rattle.std.proofs.Math.IntN.ℤ.{pos}
 use Rattle.rules.specs.PowerOn.{made_of}
-use Rattle.replay_rules.specs.Replay.{word}
+use Rattle.blocks.specs.Blocks.{word}
 use Rattle.session_rules.specs.declared.session.Session.{Session}
 use Rattle.session_rules.specs.Session.{is_session, opened_of}
 use Rattle.session_rules.specs.Portion.{Feed, feed_of, refused_with}
@@ -30,8 +31,8 @@ ZerosAreNone = is_held (replicate 256 0) ≡ false
 -- ---- Open ----
 
 pub record Opens (address : ℤ) (session : List ℕ) : Type 0 where
-  pub fresh : length session ≡ 256 → (made_of address).code ≡ 0 → open_of address session ≡ record { code = 0; session = bytes_of (opened_of address).session }
-  pub bad : length session ≡ 256 → (made_of address).code ≡ 2 → open_of address session ≡ record { code = 2; session = replicate 256 0 }
+  pub fresh : length session ≡ 256 → (made_of address).code ≡ Done → open_of address session ≡ record { code = 0; session = bytes_of (opened_of address).session }
+  pub bad : length session ≡ 256 → (made_of address).code ≡ BadField → open_of address session ≡ record { code = 2; session = replicate 256 0 }
   pub other : (length session ≡ 256 → ⊥) → open_of address session ≡ record { code = 2; session = session }
 
 abbrev pub OpenMeans : Type 0
@@ -99,7 +100,7 @@ call_of l = record { portion = l.portion; end = l.end; room = length l.output }
 -- which `Calls.EveryMoment`, `Calls.EndIsWhole`, `Calls.BadAtOnce`, `Calls.HoweverCut` and `Calls.SessionNoAlarmLost` speak
 abbrev pub CallsInBytes : Type 0
 CallsInBytes =
-    (address : ℤ) → (made_of address).code ≡ 0 → (session : List ℕ) → length session ≡ 256 → (ls : List Lent)
+    (address : ℤ) → (made_of address).code ≡ Done → (session : List ℕ) → length session ≡ 256 → (ls : List Lent)
     → bytes_after (open_of address session).session ls ≡ bytes_of (session_at address (map call_of ls))
 
 -- ---- The promises ----

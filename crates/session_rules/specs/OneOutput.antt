@@ -1,12 +1,13 @@
 -- Document 02, item 5, "The same for Item 1 where the output starts empty and isn't renewed": a session into one output, counted over
 -- everything offered so far. Proofs in proofs/OneOutput.antt. Assumes nothing.
+use Rattle.rules.specs.declared.answer.Code.TheVariants.{Done}
 use Rattle.std.specs.Prelude.{ℕ, ◌+◌, ◌/◌, ◌≤◌, ◌≡◌, ◌⊎◌, ℤ, drop, length, replicate, take}
 use mathlib.Core.List.{List, [], ◌∷◌, flat_map, map}
 use Rattle.std.proofs.Math.IntN.ℤ.{pos}
 use Rattle.rules.specs.PowerOn.{made_of}
 use Rattle.text_rules.specs.Sizes.{shortest_record}
 use Rattle.replay_rules.specs.Best.{found_open, started}
-use Rattle.replay_rules.specs.Replay.{word_at}
+use Rattle.blocks.specs.Blocks.{word_at}
 use Rattle.replay_rules.specs.Room.{room_of}
 use Rattle.session_rules.specs.declared.session.Session.{Session}
 use Rattle.session_rules.specs.Bytes.{held_in}
@@ -24,7 +25,7 @@ StillEnough =
 -- all portions, taken or not; with any room in each call, also where the output is renewed
 abbrev pub FewRecords : Type 0
 FewRecords =
-    (address : ℤ) → (made_of address).code ≡ 0 → (cs : List Call) → (session_at address cs).records ≤ length (flat_map (λ c. c.portion) cs) / shortest_record
+    (address : ℤ) → (made_of address).code ≡ Done → (cs : List Call) → (session_at address cs).records ≤ length (flat_map (λ c. c.portion) cs) / shortest_record
 
 -- ---- Of the call that C makes ----
 
@@ -73,7 +74,7 @@ pub record NextCall (all room : ℕ) (h : Hand) (b : Brought) (f : Feeding) : Ty
 -- after any calls; and what they have written, as the session's bytes count it, and what is left make up the output
 pub record Into (address : ℤ) (session output : List ℕ) (bs : List Brought) (h : Hand) : Type 0 where
   pub next : (b : Brought) → NextCall (length (flat_map (λ x. x.portion) bs) + length b.portion) (length output) h b (handed h b)
-  pub whole : length session ≡ 256 → (made_of address).code ≡ 0 → word_at h.session 12 + length h.left ≡ length output
+  pub whole : length session ≡ 256 → (made_of address).code ≡ Done → word_at h.session 12 + length h.left ≡ length output
 
 abbrev pub IntoOne : Type 0
 IntoOne =

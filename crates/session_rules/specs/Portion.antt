@@ -1,8 +1,13 @@
 -- Document 02, item 1: one portion of a trace. Assumes nothing.
-use Rattle.std.specs.Prelude.{ℕ, ◌+◌, ◌-◌, ◌≡◌, Bool, cond, false, not, ◌&&◌, ◌||◌, List, [], ◌++◌, eqb, ltb, length, drop, replicate, take}
+use Rattle.std.specs.Prelude.{Option, Some, None}
+use Rattle.session_rules.specs.declared.session.Stop.TheVariants.{TooLong, NoSession, Record as NoRecord, Room, Ended}
+use Rattle.replay_rules.specs.declared.play.Stop.{Stop as PlayStop}
+use Rattle.replay_rules.specs.declared.play.Stop.TheVariants.{Record as PlayRecord, Room as PlayRoom}
+use Rattle.session_rules.specs.declared.session.Stop.{Stop}
+use Rattle.std.specs.Prelude.{ℕ, ◌+◌, ◌-◌, ◌≡◌, Bool, cond, false, not, ◌&&◌, ◌||◌, List, [], ◌++◌, eqb, ltb, length, drop, take}
 use Rattle.text_rules.specs.Answer.{put}
 use Rattle.replay_rules.specs.Play.{Run, run_of}
-use Rattle.replay_rules.specs.Replay.{word}
+use Rattle.blocks.specs.Blocks.{filled, word}
 use Rattle.session_rules.specs.declared.session.Fed.{Fed}
 use Rattle.session_rules.specs.declared.session.Session.{Session}
 use Rattle.session_rules.specs.declared.session.Window.{Window}
@@ -15,13 +20,26 @@ pub record Feed : Type 0 where
   pub text : List ℕ
   pub session : Session
 
+-- the codes: 2, "one that takes the total over 16 MiB"; 6, for what is no session; 7, a record that is bad; 8, "the next answer doesn't fit";
+-- 9, "a non-empty portion after the end was declared"; 0 where nothing stopped
+abbrev pub number_of : Stop → ℕ
+number_of TooLong = 2
+number_of NoSession = 6
+number_of NoRecord = 7
+number_of Room = 8
+number_of Ended = 9
+
+abbrev pub fed_code : Option Stop → ℕ
+fed_code None = 0
+fed_code (Some stop) = number_of stop
+
 -- "Refusals, changing nothing"
 abbrev pub refusal : Session → ℕ → Feed
 refusal s code = record { code = code; taken = 0; text = []; session = s }
 
 -- the first 39 bytes, which decide whether a record stands there
 abbrev pub window_of : List ℕ → Window
-window_of bytes = record { bytes = take 39 bytes ++ replicate (39 - length bytes) 0; count = length (take 39 bytes) }
+window_of bytes = record { bytes = filled 39 bytes; count = length (take 39 bytes) }
 
 -- a run over what was carried and the portion behind it, which stopped at a partial record
 abbrev pub waits : Run → List ℕ → Bool
@@ -76,6 +94,20 @@ refused_with s size =
     (cond s.stopped 7
     (cond (ltb 16777216 (s.used + s.count + size)) 2 0)))
 
+-- the same, by what refuses; none where the portion is looked at
+unfoldable pub refusal_of : Session → ℕ → Option Stop
+refusal_of s size =
+    cond (not (is_session s)) (Some NoSession)
+    (cond (s.ended && ltb 0 size) (Some Ended)
+    (cond s.stopped (Some NoRecord)
+    (cond (ltb 16777216 (s.used + s.count + size)) (Some TooLong) None)))
+
+-- what stopped a play, as a portion has it
+abbrev pub stop_for : Option PlayStop → Option Stop
+stop_for None = None
+stop_for (Some PlayRecord) = Some NoRecord
+stop_for (Some PlayRoom) = Some Room
+
 unfoldable pub feed_of : Session → List ℕ → Bool → ℕ → Feed
 feed_of s portion end room =
     cond (eqb (refused_with s (length portion)) 0)
@@ -90,7 +122,7 @@ report_after f = ((word f.code ++ word f.session.records) ++ word f.session.used
 
 -- what one portion promises: each number, the session, and every byte of the output
 pub record FedOn (wanted : Feed) (before after : List ℕ) (r : Fed) : Type 0 where
-  pub code : r.code ≡ wanted.code
+  pub code : fed_code r.stop ≡ wanted.code
   pub taken : r.taken ≡ wanted.taken
   pub written : r.written ≡ length wanted.text
   pub session : r.session ≡ wanted.session

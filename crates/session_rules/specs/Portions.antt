@@ -1,10 +1,14 @@
 -- What a portion gives, in other words: each refusal, each way that a portion ends, and which bytes are a partial record. An error made in
 -- the definitions and in the code alike is refused here. Proofs in proofs/Portions.antt. Assumes nothing.
+use Rattle.std.specs.Prelude.{Option}
+use Rattle.session_rules.specs.declared.session.Stop.{Stop}
+use Rattle.std.specs.Prelude.{Ok, Err}
+use Rattle.rules.specs.declared.answer.Code.TheVariants.{Done, BadField}
 use Rattle.std.specs.Prelude.{ℕ, ◌+◌, ◌*◌, ◌-◌, ◌<◌, ◌≤◌, ◌≡◌, Bool, false, true, List, [], ◌∷◌, ◌++◌, map, ℤ, drop, length, replicate, take}
 use Rattle.rules.specs.PowerOn.{made_of}
 use Rattle.rules.specs.WellFormed.{well_formed}
 use Rattle.text_rules.specs.declared.record.Record.{Record}
-use Rattle.text_rules.specs.declared.record.Parsed.TheVariants.{Whole, Part, Malformed}
+use Rattle.text_rules.specs.declared.record.Unread.TheVariants.{Part, Malformed}
 use Rattle.text_rules.specs.Record.{record_of}
 use Rattle.text_rules.specs.Sizes.{longest_answer, longest_record, shortest_answer, shortest_record}
 use Rattle.replay_rules.specs.Play.{Run, run_of}
@@ -18,9 +22,9 @@ use Rattle.session_rules.specs.Portion.{Feed, FedBy, feed_of}
 -- "A fresh state is made for address 76 or 77; any other address is code 2 with a state of all zeros, which code 6 refuses": nothing was taken,
 -- nothing is carried, no end was declared and nothing stopped it
 pub record Opens (address : ℤ) : Type 0 where
-  pub fresh : (made_of address).code ≡ 0
-      → opened_of address ≡ record { code = 0; session = record { chip = (made_of address).state; records = 0; used = 0; written = 0; ended = false; stopped = false; count = 0; carried = replicate 38 0 } }
-  pub none : (made_of address).code ≡ 2 → ((opened_of address).code ≡ 2) × ((opened_of address).session.chip ≡ (made_of address).state) × (is_session (opened_of address).session ≡ false)
+  pub fresh : (made_of address).code ≡ Done
+      → opened_of address ≡ record { code = Done; session = record { chip = (made_of address).state; records = 0; used = 0; written = 0; ended = false; stopped = false; count = 0; carried = replicate 38 0 } }
+  pub none : (made_of address).code ≡ BadField → ((opened_of address).code ≡ BadField) × ((opened_of address).session.chip ≡ (made_of address).state) × (is_session (opened_of address).session ≡ false)
 
 abbrev pub OpeningMeans : Type 0
 OpeningMeans = (address : ℤ) → Opens address
@@ -37,7 +41,7 @@ pub record Fits (s : Session) : Type 0 where
   pub few : s.count ≤ 38
   pub zeros : s.carried ≡ take s.count s.carried ++ replicate (38 - s.count) 0
   pub size : length s.carried ≡ 38
-  pub part : record_of (take s.count s.carried) ≡ Part
+  pub part : record_of (take s.count s.carried) ≡ Err Part
   pub cut : s.ended ≡ true → s.stopped ≡ true → 0 < s.count
   pub whole : s.ended ≡ true → s.stopped ≡ false → s.count ≡ 0
 
@@ -88,7 +92,7 @@ pub record Looks (s : Session) (portion : List ℕ) (end : Bool) (room : ℕ) (r
         session = record { chip = r.state; records = s.records + r.records; used = s.used + r.used; written = s.written + length r.text; ended = ended; stopped = false; count = 0; carried = replicate 38 0 };
       }
   -- a partial record is left: all is taken, and it is carried
-  pub carries : 0 < length left → record_of left ≡ Part → end ≡ false
+  pub carries : 0 < length left → record_of left ≡ Err Part → end ≡ false
       → feed_of s portion end room
       ≡ record {
         code = 0;
@@ -97,7 +101,7 @@ pub record Looks (s : Session) (portion : List ℕ) (end : Bool) (room : ℕ) (r
         session = record { chip = r.state; records = s.records + r.records; used = s.used + r.used; written = s.written + length r.text; ended = false; stopped = false; count = length left; carried = carrying left };
       }
   -- at the end it is code 7, and the end counts
-  pub cut : 0 < length left → record_of left ≡ Part → end ≡ true
+  pub cut : 0 < length left → record_of left ≡ Err Part → end ≡ true
       → feed_of s portion end room
       ≡ record {
         code = 7;
@@ -106,7 +110,7 @@ pub record Looks (s : Session) (portion : List ℕ) (end : Bool) (room : ℕ) (r
         session = record { chip = r.state; records = s.records + r.records; used = s.used + r.used; written = s.written + length r.text; ended = true; stopped = true; count = length left; carried = carrying left };
       }
   -- a bad record behind what was carried: all before it is taken, and an end does not count
-  pub bad : record_of left ≡ Malformed → 0 < r.used
+  pub bad : record_of left ≡ Err Malformed → 0 < r.used
       → feed_of s portion end room
       ≡ record {
         code = 7;
@@ -115,7 +119,7 @@ pub record Looks (s : Session) (portion : List ℕ) (end : Bool) (room : ℕ) (r
         session = record { chip = r.state; records = s.records + r.records; used = s.used + r.used; written = s.written + length r.text; ended = false; stopped = true; count = 0; carried = replicate 38 0 };
       }
   -- one that began in what was carried: none of the portion is taken, and the carried bytes stay
-  pub bad_seam : record_of left ≡ Malformed → r.used ≡ 0
+  pub bad_seam : record_of left ≡ Err Malformed → r.used ≡ 0
       → feed_of s portion end room
       ≡ record {
         code = 7;
@@ -124,7 +128,7 @@ pub record Looks (s : Session) (portion : List ℕ) (end : Bool) (room : ℕ) (r
         session = record { chip = s.chip; records = s.records; used = s.used; written = s.written; ended = false; stopped = true; count = s.count; carried = s.carried };
       }
   -- an answer that does not fit: the same, and it may come again
-  pub full : (q : Record) (n : ℕ) → record_of left ≡ Whole q n → 0 < r.used
+  pub full : (q : Record) (n : ℕ) → record_of left ≡ Ok (q, n) → 0 < r.used
       → feed_of s portion end room
       ≡ record {
         code = 8;
@@ -132,7 +136,7 @@ pub record Looks (s : Session) (portion : List ℕ) (end : Bool) (room : ℕ) (r
         text = r.text;
         session = record { chip = r.state; records = s.records + r.records; used = s.used + r.used; written = s.written + length r.text; ended = false; stopped = false; count = 0; carried = replicate 38 0 };
       }
-  pub full_seam : (q : Record) (n : ℕ) → record_of left ≡ Whole q n → r.used ≡ 0 → feed_of s portion end room ≡ record { code = 8; taken = 0; text = []; session = s }
+  pub full_seam : (q : Record) (n : ℕ) → record_of left ≡ Ok (q, n) → r.used ≡ 0 → feed_of s portion end room ≡ record { code = 8; taken = 0; text = []; session = s }
 
 abbrev pub LooksMean : Type 0
 LooksMean =
@@ -167,9 +171,10 @@ PartialMeans = (map partial partial_rows ≡ (true ∷ true ∷ true ∷ true �
 
 -- it asks for what the definition gives with the room that is lent, and no second answer meets it
 pub record OneFed (s : Session) (portion : List ℕ) (end : Bool) (before : List ℕ) (wanted : Feed) : Type 0 where
-  pub met : FedBy s portion end before (wanted.text ++ drop (length wanted.text) before) (record { code = wanted.code; taken = wanted.taken; written = length wanted.text; session = wanted.session })
+  pub stop : Option Stop
+  pub met : FedBy s portion end before (wanted.text ++ drop (length wanted.text) before) (record { stop = stop; taken = wanted.taken; written = length wanted.text; session = wanted.session })
   pub one : (after : List ℕ) (r : Fed) → FedBy s portion end before after r
-      → (r ≡ record { code = wanted.code; taken = wanted.taken; written = length wanted.text; session = wanted.session }) × (after ≡ wanted.text ++ drop (length wanted.text) before)
+      → (r ≡ record { stop = stop; taken = wanted.taken; written = length wanted.text; session = wanted.session }) × (after ≡ wanted.text ++ drop (length wanted.text) before)
 
 abbrev pub PortionPromise : Type 0
 PortionPromise =

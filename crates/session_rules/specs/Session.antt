@@ -1,11 +1,13 @@
 -- Document 02, "carry a partial record of bounded length over": what is kept between two portions, and which sessions there are. Assumes
 -- nothing.
-use Rattle.std.specs.Prelude.{ℕ, ◌+◌, ◌*◌, ◌-◌, Bool, cond, true, false, ◌&&◌, List, ◌++◌, eqb, leb, ltb, length, replicate, take, ℤ}
+use Rattle.std.specs.Prelude.{Ok, Err}
+use Rattle.std.specs.Prelude.{ℕ, ◌+◌, ◌*◌, Bool, cond, true, false, ◌&&◌, List, eqb, leb, ltb, replicate, take, ℤ}
+use Rattle.blocks.specs.Blocks.{filled}
 use Rattle.rules.specs.declared.state.State.{State}
 use Rattle.rules.specs.PowerOn.{made_of}
 use Rattle.rules.specs.WellFormed.{well_formed}
-use Rattle.text_rules.specs.declared.record.Parsed.{Parsed}
-use Rattle.text_rules.specs.declared.record.Parsed.TheVariants.{Whole, Part, Malformed}
+use Rattle.text_rules.specs.Record.{Parsed}
+use Rattle.text_rules.specs.declared.record.Unread.TheVariants.{Part, Malformed}
 use Rattle.text_rules.specs.Record.{record_of}
 use Rattle.text_rules.specs.Sizes.{longest_answer, longest_record, shortest_answer, shortest_record}
 use Rattle.saved_rules.specs.Layout.{same_bytes}
@@ -14,9 +16,9 @@ use Rattle.session_rules.specs.declared.session.Session.{Session}
 
 -- "A partial record, one that more bytes could complete"; no bytes are one too
 abbrev pub is_part : Parsed → Bool
-is_part (Whole r n) = false
-is_part Part = true
-is_part Malformed = false
+is_part (Ok (r, n)) = false
+is_part (Err Part) = true
+is_part (Err Malformed) = false
 
 unfoldable pub partial : List ℕ → Bool
 partial bytes = is_part (record_of bytes)
@@ -26,7 +28,7 @@ abbrev pub carried_of : Session → List ℕ
 carried_of s = take s.count s.carried
 
 abbrev pub padded : List ℕ → List ℕ
-padded bytes = take 38 bytes ++ replicate (38 - length bytes) 0
+padded = filled 38
 
 -- "A fresh state is made for address 76 or 77"; nothing was taken
 abbrev pub opened_from : State → Session

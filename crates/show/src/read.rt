@@ -3,13 +3,13 @@ ghost use Rattle.std.specs.Prelude.{◌≡◌};
 ghost use Rattle.rules.specs.Channels.{scale_of};
 ghost use Rattle.rules.specs.Values.{high_byte_of, low_byte_of};
 ghost use Rattle.rules.specs.State.{channel_at};
-ghost use Rattle.rules.specs.Read.{reading_of, reply_of, after_read, read_at_pointer};
+ghost use Rattle.rules.specs.Read.{reading_of, after_read, read_at_pointer};
 
 use crate::status::{after_status, status};
 use parts::stored::stored;
 use registers::command::source;
 use rules::answer::Done;
-use rules::register::{Channel, Reading, Source};
+use rules::register::{Channel, Source};
 use rules::state::State;
 use values::{high_byte, low_byte};
 
@@ -23,26 +23,17 @@ fn value_of(s: State, channel: Channel) -> u16
 }
 
 // The register's byte, or that there is no register.
-pub fn read(s: State, from: Source) -> Reading
+pub fn read(s: State, from: Source) -> Option<u8>
     ensures { result ≡ reading_of s from }
 {
     match from {
-        Source::Stored(register) => Reading::Byte(stored(s, register)),
-        Source::Value(channel) => Reading::Byte(high_byte(channel, value_of(s, channel))),
-        Source::ValueFine(channel) => Reading::Byte(low_byte(channel, value_of(s, channel))),
-        Source::Status => Reading::Byte(status(s)),
-        Source::Maker => Reading::Byte(0x41),
-        Source::Revision => Reading::Byte(0x51),
-        Source::Hole => Reading::Nothing,
-    }
-}
-
-fn reply(reading: Reading) -> u8
-    ensures { result ≡ reply_of reading }
-{
-    match reading {
-        Reading::Byte(b) => b,
-        Reading::Nothing => 0,
+        Source::Stored(register) => Some(stored(s, register)),
+        Source::Value(channel) => Some(high_byte(channel, value_of(s, channel))),
+        Source::ValueFine(channel) => Some(low_byte(channel, value_of(s, channel))),
+        Source::Status => Some(status(s)),
+        Source::Maker => Some(0x41),
+        Source::Revision => Some(0x51),
+        Source::Hole => None,
     }
 }
 
@@ -50,13 +41,8 @@ fn after_read(s: State, from: Source) -> State
     ensures { result ≡ after_read s from }
 {
     match from {
-        Source::Stored(_) => s,
-        Source::Value(_) => s,
-        Source::ValueFine(_) => s,
         Source::Status => after_status(s),
-        Source::Maker => s,
-        Source::Revision => s,
-        Source::Hole => s,
+        _ => s,
     }
 }
 
@@ -67,7 +53,7 @@ pub fn read_at_pointer(s: State) -> Done
 {
     let from = source(s.pointer);
     Done {
-        reply: reply(read(s, from)),
+        reply: read(s, from).unwrap_or(0),
         state: after_read(s, from),
     }
 }

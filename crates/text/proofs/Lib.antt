@@ -1,3 +1,2 @@
--- Laws of the quick reader: its numbers, its lines.
-pub mod QuickLines
-pub mod QuickNumbers
+-- Laws of the readers.
+pub mod Read

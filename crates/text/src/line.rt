@@ -1,37 +1,19 @@
 // A line: a name, an equals sign, a number.
-ghost use Rattle.std.specs.Prelude.{◌≡◌, cond, ◌≤◌, length, drop};
-ghost use Rattle.text_rules.specs.declared.line.Fit.TheVariants.{No};
+ghost use Rattle.std.specs.Prelude.{◌≡◌, drop};
 ghost use Rattle.text_rules.specs.Number.{longer, number_of};
-ghost use Rattle.text_rules.specs.Line.{fit_of, behind_name};
+ghost use Rattle.text_rules.specs.Line.{behind_name, fit_of, line_of};
 
-use crate::number;
+use crate::number::number;
 use text_rules::line::Fit;
-use text_rules::number::Line;
+use text_rules::record::Unread;
 
-// The first n bytes of both are the same. All of them are compared, so that the compiler takes a known name in one piece.
-fn same(name: &[u8], s: &[u8], n: usize) -> bool
-    requires { (n ≤ length name.now) × (n ≤ length s.now) }
-    ensures { fit_of name.now s.now ≡ cond result (fit_of (drop n name.now) (drop n s.now)) No }
-{
-    let mut i = 0;
-    let mut all = true;
-    while i < n {
-        all = all & (name[i] == s[i]);
-        i = i + 1;
-    }
-    all
-}
-
+#[inline(always)]
 pub fn fit_name(name: &[u8], s: &[u8]) -> Fit
     ensures { result ≡ fit_of name.now s.now }
 {
-    if name.len() <= s.len() {
-        if same(name, s, name.len()) {
-            Fit::Yes
-        } else {
-            Fit::No
-        }
-    } else if same(name, s, s.len()) {
+    if s.starts_with(name) {
+        Fit::Yes
+    } else if name.starts_with(s) {
         Fit::Begun
     } else {
         Fit::No
@@ -39,27 +21,35 @@ pub fn fit_name(name: &[u8], s: &[u8]) -> Fit
 }
 
 // A number and the end of its line, behind k bytes. A part of no more than them could still get one.
-pub fn behind(k: usize, s: &[u8]) -> Line
+#[tactic(auto, using(text_rules::proofs::Lines::number_within))]
+#[inline(never)]
+pub fn behind(k: usize, s: &[u8]) -> Result<(i32, usize), Unread>
     ensures { result ≡ longer k (number_of (drop k s.now)) }
 {
     if s.len() <= k {
-        return Line::Short;
+        return Err(Unread::Part);
     }
-    match number::number(&s[k..]) {
-        Line::Is(v, n) => Line::Is(v, k + n),
-        Line::Short => Line::Short,
-        Line::Never => Line::Never,
+    let (value, n) = number(&s[k..])?;
+    Ok((value, k + n))
+}
+
+// The line, by its name's fit and what stands behind the name. The caller reads both: so `behind` is one function for all names.
+#[inline(always)]
+pub fn line(fit: Fit, behind: Result<(i32, usize), Unread>) -> Result<(i32, usize), Unread>
+    ensures { result ≡ behind_name fit behind }
+{
+    match fit {
+        Fit::Yes => behind,
+        Fit::Begun => Err(Unread::Part),
+        Fit::No => Err(Unread::Malformed),
     }
 }
 
-// The line, by its name's fit and what stands behind the name. The caller reads both: so the compiler keeps `behind` one function for every
-// name, and compares each name where it is known.
-pub fn line(fit: Fit, l: Line) -> Line
-    ensures { result ≡ behind_name fit l }
+// A line of that name. It is laid out at each call, so that a known name is compared in one piece.
+#[inline(always)]
+#[tactic(auto, unfolding(text_rules::specs::Line::line_of))]
+pub(crate) fn named(name: &[u8], s: &[u8]) -> Result<(i32, usize), Unread>
+    ensures { result ≡ line_of name.now s.now }
 {
-    match fit {
-        Fit::Yes => l,
-        Fit::Begun => Line::Short,
-        Fit::No => Line::Never,
-    }
+    line(fit_name(name, s), behind(name.len(), s))
 }

@@ -13,9 +13,10 @@ use lib.IntN.ℤ.{pos}
 use lib.ListN.{length, get_or, take, drop}
 use lib.Seq.{take-suc, split_at, drop-cons, drop-drop}
 use borrow.Author.Tests.{lt-ltb, le-ltb, ltb-false, leb-false, eqb-true, eqb-false}
+use Rattle.text_rules.specs.declared.record.Unread.{Unread}
+use Rattle.std.specs.Prelude.{Ok, Err}
 use Rattle.text_rules.specs.declared.number.Digits.{Digits}
-use Rattle.text_rules.specs.declared.number.Line.{Line}
-use Rattle.text_rules.specs.declared.number.Line.TheVariants.{Is, Short, Never}
+use Rattle.text_rules.specs.Number.{Line}
 use Rattle.text_rules.specs.Number.{is_digit, gather_from, digits_of, bad_zero, signed_as, plain_of, longer, number_of}
 use Rattle.text_rules.proofs.Choice.{choice}
 use Rattle.text_rules.proofs.Digits.{grown, digits_small}
@@ -105,6 +106,10 @@ counted (suc (suc (suc (suc (suc zero))))) v h g u o =
     rw (le-ltb v 10 (omega arith), le-ltb v 100 (omega arith), le-ltb v 1000 (omega arith), le-ltb v 10000 l)
 counted (suc (suc (suc (suc (suc (suc k)))))) v h g u o = absurd (omega arith)
 
+-- the same line has the same number and length
+pub parts : {y z : ℤ} {m n : ℕ} → ◌≡◌ {A = Line} (Ok (y, m)) (Ok (z, n)) → (y ≡ z) × (m ≡ n)
+parts {y} {z} {m} {n} e = let p : ◌≡◌ {A = ℤ × ℕ} (y, m) (z, n) = cc in (ap (λ (q : ℤ × ℕ). q.0) p, ap (λ (q : ℤ × ℕ). q.1) p)
+
 -- a number that was read behind its sign
 record Plain (minus : Bool) (s : List ℕ) (z : ℤ) (n : ℕ) : Type 0 where
   good : bad_zero minus s (digits_of s).count ≡ false
@@ -114,10 +119,10 @@ record Plain (minus : Bool) (s : List ℕ) (z : ℤ) (n : ℕ) : Type 0 where
   value : z ≡ signed_as minus (digits_of s).value
   size : n ≡ (digits_of s).count + 1
 
-never : {P : Type 0} {z : ℤ} {n : ℕ} → Never ≡ Is z n → P
+never : {P : Type 0} {e : Unread} {z : ℤ} {n : ℕ} → ◌≡◌ {A = Line} (Err e) (Ok (z, n)) → P
 never e = absurd (let y : ◌≡◌ {A = ℕ} 0 1 = cc in omega arith)
 
-plain_was : (minus : Bool) (s : List ℕ) (z : ℤ) (n : ℕ) → plain_of minus s ≡ Is z n → Plain minus s z n
+plain_was : (minus : Bool) (s : List ℕ) (z : ℤ) (n : ℕ) → plain_of minus s ≡ Ok (z, n) → Plain minus s z n
 unfolding plain_of
 plain_was minus s z n =
     let c = (digits_of s).count in
@@ -130,13 +135,13 @@ plain_was minus s z n =
       held = leb-false (length s) c b;
       some = omega (arith, eqb-false c 0 d);
       ended = eqb-true (get_or s c 0) 10 f;
-      value = cc;
-      size = cc;
+      value = sym (parts e).0;
+      size = sym (parts e).1;
     })
     (λ f e. never e))))
   where
     P : Line → Type 0
-    P l = l ≡ Is z n → Plain minus s z n
+    P l = l ≡ Ok (z, n) → Plain minus s z n
 
 or-false : (m t : Bool) → m || t ≡ false → (m ≡ false) × (t ≡ false)
 or-false true t e = absurd (false≢true (sym e))
@@ -179,10 +184,9 @@ module _ {minus : Bool} {s : List ℕ} {z : ℤ} {n : ℕ} (p : Plain minus s z 
   natural_size = p.size ∙ rw (as_many, digits_length (digits_of s).count (digits_of s).value)
 
 -- what was read behind k bytes
-pub without : (k : ℕ) (l : Line) {z : ℤ} {n : ℕ} → longer k l ≡ Is z n → (m : ℕ) × (l ≡ Is z m) × (n ≡ k + m)
-without k (Is v m) e = (m, (cc), (cc))
-without k Short e = absurd (let y : ◌≡◌ {A = ℕ} 0 1 = cc in omega arith)
-without k Never e = never e
+pub without : (k : ℕ) (l : Line) {z : ℤ} {n : ℕ} → longer k l ≡ Ok (z, n) → (m : ℕ) × (l ≡ Ok (z, m)) × (n ≡ k + m)
+without k (Ok (v, m)) e = (m, ap (λ (v : ℤ). Ok (v, m)) (parts e).0, sym (parts e).1)
+without k (Err x) e = never e
 
 negative : (v : ℕ) → 1 ≤ v → written_number (neg_ℤ (pos v)) ≡ 45 ∷ written_natural v
 negative zero h = absurd (omega arith)
@@ -195,7 +199,7 @@ size_of (suc v) = refl
 pub read_was_written : ReadWasWritten
 unfolding number_of
 read_was_written s z n =
-    choice (λ (l : Line). l ≡ Is z n → Began s z n) (eqb (get_or s 0 0) 45) minus
+    choice (λ (l : Line). l ≡ Ok (z, n) → Began s z n) (eqb (get_or s 0 0) 45) minus
     (λ t e. let p : Plain false s z n = plain_was false s z n e in
     record {
       small = rw p.value (omega (arith, (digits_small s).0));
@@ -203,7 +207,7 @@ read_was_written s z n =
       count = rw p.value (natural_size p);
     })
   where
-    signed : get_or s 0 0 ≡ 45 → (m : ℕ) → plain_of true (drop 1 s) ≡ Is z m → n ≡ 1 + m → Began s z n
+    signed : get_or s 0 0 ≡ 45 → (m : ℕ) → plain_of true (drop 1 s) ≡ Ok (z, m) → n ≡ 1 + m → Began s z n
     signed b m e f =
         let p : Plain true (drop 1 s) z m = plain_was true (drop 1 s) z m e in
         let v = (digits_of (drop 1 s)).value in
@@ -215,5 +219,5 @@ read_was_written s z n =
           count = rw w (omega (arith, natural_size p));
         }
 
-    minus : eqb (get_or s 0 0) 45 ≡ true → longer 1 (plain_of true (drop 1 s)) ≡ Is z n → Began s z n
+    minus : eqb (get_or s 0 0) 45 ≡ true → longer 1 (plain_of true (drop 1 s)) ≡ Ok (z, n) → Began s z n
     minus t e = let r = without 1 (plain_of true (drop 1 s)) e in signed (eqb-true (get_or s 0 0) 45 t) r.0 r.1 r.2

@@ -10,9 +10,10 @@ use lib.IntN.ℤ.{pos, negsuc}
 use lib.ListN.{length, take, drop, length-append, length-take, take-append-drop}
 use borrow.Author.Tests.{ltb-false, ltb-true}
 use lib.Seq.{take_all, take-append-le, take-append_seam}
+use Rattle.text_rules.specs.declared.record.Unread.TheVariants.{Part, Malformed}
+use Rattle.std.specs.Prelude.{Ok, Err}
 use Rattle.text_rules.specs.declared.record.Record.{Record}
-use Rattle.text_rules.specs.declared.record.Parsed.{Parsed}
-use Rattle.text_rules.specs.declared.record.Parsed.TheVariants.{Whole, Part, Malformed}
+use Rattle.text_rules.specs.Record.{Parsed}
 use Rattle.text_rules.specs.Answer.{answer_text, decimal_of, line_text}
 use Rattle.text_rules.specs.Number.{digits_of, number_of, plain_of}
 use Rattle.text_rules.specs.Line.{fit_of, line_of}
@@ -65,7 +66,7 @@ record_is_bounded s r n e =
     record {
       least = (record_fits s e).0;
       most = omega (arith, w.count, text_short r);
-      own = ap record_of (front ∙ sym (append-nil (record_text r))) ∙ written_record_is_read r [] w.few ∙ ap (Whole r) (sym w.count);
+      own = ap record_of (front ∙ sym (append-nil (record_text r))) ∙ written_record_is_read r [] w.few ∙ ap (λ (k : ℕ). Ok (r, k)) (sym w.count);
     }
 
 pub part_ends_inside : PartEndsInside
@@ -74,8 +75,8 @@ part_ends_inside s more r n p e = by (ltb (length s) n) refl
     inside : n ≤ length s → ⊥
     inside h =
         let own = (record_is_bounded (s ++ more) r n e).own in
-        let own' : record_of (take n s) ≡ Whole r n = rw (take-append-le n s more h) at own in
-        let whole : record_of s ≡ Whole r n = ap record_of (sym (take-append-drop n s)) ∙ whole_stays (take n s) (drop n s) own' in
+        let own' : record_of (take n s) ≡ Ok (r, n) = rw (take-append-le n s more h) at own in
+        let whole : record_of s ≡ Ok (r, n) = ap record_of (sym (take-append-drop n s)) ∙ whole_stays (take n s) (drop n s) own' in
         let y : ◌≡◌ {A = ℕ} 0 1 = cc in omega arith
 
     by : (t : Bool) → ltb (length s) n ≡ t → length s < n
@@ -91,11 +92,11 @@ pub window_decides : WindowDecides
 window_decides s = by (record_of (take longest_record s)) refl
   where
     by : (p : Parsed) → record_of (take longest_record s) ≡ p → record_of (take longest_record s) ≡ record_of s
-    by (Whole r n) e = e ∙ sym (whole_stays (take longest_record s) (drop longest_record s) e) ∙ ap record_of (take-append-drop longest_record s)
-    by Part e =
+    by (Ok (r, n)) e = e ∙ sym (whole_stays (take longest_record s) (drop longest_record s) e) ∙ ap record_of (take-append-drop longest_record s)
+    by (Err Part) e =
         let h : length (take longest_record s) ≤ 38 = part_is_bounded (take longest_record s) e in
         ap record_of (take_all longest_record s (omega (arith, length-take longest_record s, h)))
-    by Malformed e = e ∙ sym (refusal_stays (take longest_record s) (drop longest_record s) e) ∙ ap record_of (take-append-drop longest_record s)
+    by (Err Malformed) e = e ∙ sym (refusal_stays (take longest_record s) (drop longest_record s) e) ∙ ap record_of (take-append-drop longest_record s)
 
 pub answer_is_bounded : AnswerIsBounded
 answer_is_bounded code reply alert therm h =

@@ -8,10 +8,10 @@ use mathlib.Core.List.{List, [], ◌++◌, append_assoc}
 use lib.IntN.{ℤ}
 use lib.ListN.{length, drop}
 use lib.Seq.{drop-append-le, drop-append_seam, drop-drop}
-use Rattle.text_rules.specs.declared.number.Line.{Line}
-use Rattle.text_rules.specs.declared.number.Line.TheVariants.{Is, Short, Never}
-use Rattle.text_rules.specs.declared.record.Parsed.{Parsed}
-use Rattle.text_rules.specs.declared.record.Parsed.TheVariants.{Whole, Part, Malformed}
+use Rattle.text_rules.specs.declared.record.Unread.TheVariants.{Part, Malformed}
+use Rattle.std.specs.Prelude.{Ok, Err}
+use Rattle.text_rules.specs.Number.{Line}
+use Rattle.text_rules.specs.Record.{Parsed}
 use Rattle.text_rules.specs.Names.{kind_name, a_name, b_name, c_name}
 use Rattle.text_rules.specs.Line.{fit_of, line_of}
 use Rattle.text_rules.specs.Record.{next, record_of}
@@ -21,9 +21,8 @@ use Rattle.text_rules.specs.Completed.{Completed, PartIsCompleted, RefusalStays,
 use Rattle.text_rules.proofs.Filled.{line_filled, filled_stays}
 
 abbrev IsWhole : Parsed → Type 0
-IsWhole (Whole r n) = Unit
-IsWhole Part = ⊥
-IsWhole Malformed = ⊥
+IsWhole (Ok (r, n)) = Unit
+IsWhole (Err e) = ⊥
 
 -- bytes that make a reader find a whole record behind s
 record Made (reads : List ℕ → Parsed) (s : List ℕ) : Type 0 where
@@ -31,7 +30,7 @@ record Made (reads : List ℕ → Parsed) (s : List ℕ) : Type 0 where
   is : IsWhole (reads (s ++ more))
 
 abbrev Fills : (List ℕ → Parsed) → Type 0
-Fills reads = (s : List ℕ) → reads s ≡ Part → Made reads s
+Fills reads = (s : List ℕ) → reads s ≡ Err Part → Made reads s
 
 -- a line, and what is read behind it
 abbrev pub chain : List ℕ → (ℤ → ℕ → List ℕ → Parsed) → List ℕ → Parsed
@@ -41,25 +40,25 @@ chain_fills : (name : List ℕ) (later : ℤ → ℕ → List ℕ → Parsed) �
     → ((v : ℤ) (n : ℕ) → Made (later v n) []) → Fills (chain name later)
 chain_fills name later fills start s e = by (line_of name s) refl e
   where
-    by : (l : Line) → line_of name s ≡ l → next l (λ v n. later v n (drop n s)) ≡ Part → Made (chain name later) s
-    by (Is v n) f e =
+    by : (l : Line) → line_of name s ≡ l → next l (λ v n. later v n (drop n s)) ≡ Err Part → Made (chain name later) s
+    by (Ok (v, n)) f e =
         let m = fills v n (drop n s) e in
         let b = read_between name s f in
-        let stays : line_of name (s ++ m.more) ≡ Is v n =
+        let stays : line_of name (s ++ m.more) ≡ Ok (v, n) =
         ⊎_elim (λ p. absurd (let y : ◌≡◌ {A = ℕ} 0 1 = cc in omega arith)) (λ q. q ∙ f) (line_firm name s m.more) in
         record { more = m.more; is = rw (stays, drop-append-le n s m.more b.1) m.is }
-    by Short f e =
+    by (Err Part) f e =
         let g = line_filled name s f in
         let m = start g.value (length (s ++ g.more)) in
         record {
           more = g.more ++ m.more;
           is = rw (← append_assoc s g.more m.more, filled_stays name s g m.more, drop-append_seam (s ++ g.more) m.more) m.is;
         }
-    by Never f e = absurd (let y : ◌≡◌ {A = ℕ} 0 1 = cc in omega arith)
+    by (Err Malformed) f e = absurd (let y : ◌≡◌ {A = ℕ} 0 1 = cc in omega arith)
 
 -- the four lines, each from where the one before it ended
 abbrev pub fourth : ℤ → ℤ → ℤ → ℕ → List ℕ → Parsed
-fourth kind a b n = chain c_name (λ c j rest. Whole (record { kind = kind; a = a; b = b; c = c }) (n + j))
+fourth kind a b n = chain c_name (λ c j rest. Ok (record { kind = kind; a = a; b = b; c = c }, n + j))
 
 abbrev pub third : ℤ → ℤ → ℕ → List ℕ → Parsed
 third kind a n = chain b_name (λ b k. fourth kind a b (n + k))
@@ -76,7 +75,7 @@ record_first s = simp drop-drop
 
 fourth_fills : (kind a b : ℤ) (n : ℕ) → Fills (fourth kind a b n)
 fourth_fills kind a b n =
-    chain_fills c_name (λ c j rest. Whole (record { kind = kind; a = a; b = b; c = c }) (n + j))
+    chain_fills c_name (λ c j rest. Ok (record { kind = kind; a = a; b = b; c = c }, n + j))
     (λ c j s e. absurd (let y : ◌≡◌ {A = ℕ} 0 1 = cc in omega arith)) (λ c j. record { more = []; is = tt })
 
 third_fills : (kind a : ℤ) (n : ℕ) → Fills (third kind a n)
@@ -99,9 +98,8 @@ part_is_completed s e =
     by m.more (first (s ++ m.more)) (record_first (s ++ m.more)) m.is
   where
     by : (t : List ℕ) (p : Parsed) → record_of (s ++ t) ≡ p → IsWhole p → Completed s
-    by t (Whole r n) f w = record { more = t; numbers = r; size = n; is = f }
-    by t Part f w = absurd w
-    by t Malformed f w = absurd w
+    by t (Ok (r, n)) f w = record { more = t; numbers = r; size = n; is = f }
+    by t (Err e) f w = absurd w
 
 pub whole_stays_whole : WholeStays
 whole_stays_whole s more r n e = whole_stays s more e

@@ -12,9 +12,10 @@ use lib.IntN.ℤ.{pos}
 use lib.ListN.{length, get_or, drop, length-append, length-drop, drop_of_length-le}
 use lib.Seq.{drop-cons, drop-append-le, drop-append_seam}
 use borrow.Author.Tests.{leb-true, leb-false, eqb-true, eq-eqb}
+use Rattle.text_rules.specs.declared.record.Unread.TheVariants.{Part, Malformed}
+use Rattle.std.specs.Prelude.{Ok, Err}
 use Rattle.text_rules.specs.declared.number.Digits.{Digits}
-use Rattle.text_rules.specs.declared.number.Line.{Line}
-use Rattle.text_rules.specs.declared.number.Line.TheVariants.{Is, Short, Never}
+use Rattle.text_rules.specs.Number.{Line}
 use Rattle.text_rules.specs.declared.line.Fit.{Fit}
 use Rattle.text_rules.specs.declared.line.Fit.TheVariants.{Yes, Begun, No}
 use Rattle.text_rules.specs.Number.{is_digit, gather_from, digits_of, bad_zero, signed_as, plain_of, longer, number_of}
@@ -30,7 +31,7 @@ use Rattle.text_rules.proofs.Plain.{AllDigits, worth, plain_reads}
 pub record Filled (reads : List ℕ → Line) (s : List ℕ) : Type 0 where
   pub more : List ℕ
   pub value : ℤ
-  pub is : reads (s ++ more) ≡ Is value (length (s ++ more))
+  pub is : reads (s ++ more) ≡ Ok (value, length (s ++ more))
 
 -- where all is gathered, all are digits
 all_digits : (room v n : ℕ) (s : List ℕ) → length s ≤ (gather_from room v n s).count → AllDigits (drop n s)
@@ -55,7 +56,7 @@ record Open (minus : Bool) (s : List ℕ) : Type 0 where
   good : bad_zero minus s (digits_of s).count ≡ false
   all : length s ≤ (digits_of s).count
 
-plain_open : (minus : Bool) (s : List ℕ) → plain_of minus s ≡ Short → Open minus s
+plain_open : (minus : Bool) (s : List ℕ) → plain_of minus s ≡ Err Part → Open minus s
 unfolding plain_of
 plain_open minus s =
     let c = (digits_of s).count in
@@ -66,7 +67,7 @@ plain_open minus s =
     (λ f e. absurd (let y : ◌≡◌ {A = ℕ} 0 1 = cc in omega arith)))))
   where
     P : Line → Type 0
-    P l = l ≡ Short → Open minus s
+    P l = l ≡ Err Part → Open minus s
 
 few : (room v n : ℕ) (s : List ℕ) → n ≤ length s → (gather_from room v n s).count ≤ length s
 few zero v n s h = h
@@ -78,12 +79,12 @@ digits_few : (s : List ℕ) → (digits_of s).count ≤ length s
 unfolding digits_of
 digits_few s = few 5 0 0 s (omega arith)
 
-one : (minus : Bool) → plain_of minus (49 ∷ 10 ∷ []) ≡ Is (signed_as minus 1) 2
+one : (minus : Bool) → plain_of minus (49 ∷ 10 ∷ []) ≡ Ok (signed_as minus 1, 2)
 unfolding plain_of digits_of
 one minus = refl
 
 -- with no digit yet, 1 does for either sign; else the line's end
-plain_filled : (minus : Bool) (s : List ℕ) → plain_of minus s ≡ Short → Filled (plain_of minus) s
+plain_filled : (minus : Bool) (s : List ℕ) → plain_of minus s ≡ Err Part → Filled (plain_of minus) s
 plain_filled minus [] e = record { more = 49 ∷ 10 ∷ []; value = signed_as minus 1; is = one minus }
 plain_filled minus (x ∷ s) e =
     let o = plain_open minus (x ∷ s) e in
@@ -95,27 +96,27 @@ plain_filled minus (x ∷ s) e =
     record {
       more = 10 ∷ [];
       value = v;
-      is = plain_reads minus (x ∷ s) [] all (omega arith) short (rw c at o.good) ∙ ap (Is v) size;
+      is = plain_reads minus (x ∷ s) [] all (omega arith) short (rw c at o.good) ∙ ap (λ (k : ℕ). Ok (v, k)) size;
     }
 
-longer_short : (k : ℕ) (l : Line) → longer k l ≡ Short → l ≡ Short
-longer_short k (Is v n) e = absurd (let y : ◌≡◌ {A = ℕ} 0 1 = cc in omega arith)
-longer_short k Short e = refl
-longer_short k Never e = absurd (let y : ◌≡◌ {A = ℕ} 0 1 = cc in omega arith)
+longer_short : (k : ℕ) (l : Line) → longer k l ≡ Err Part → l ≡ Err Part
+longer_short k (Ok (v, n)) e = absurd (let y : ◌≡◌ {A = ℕ} 0 1 = cc in omega arith)
+longer_short k (Err Part) e = refl
+longer_short k (Err Malformed) e = absurd (let y : ◌≡◌ {A = ℕ} 0 1 = cc in omega arith)
 
-nought : number_of (48 ∷ 10 ∷ []) ≡ Is (pos 0) 2
+nought : number_of (48 ∷ 10 ∷ []) ≡ Ok (pos 0, 2)
 unfolding number_of plain_of digits_of
 nought = refl
 
-number_filled : (s : List ℕ) → number_of s ≡ Short → Filled number_of s
+number_filled : (s : List ℕ) → number_of s ≡ Err Part → Filled number_of s
 unfolding number_of
 number_filled [] e = record { more = 48 ∷ 10 ∷ []; value = pos 0; is = nought }
 number_filled (x ∷ s) e = by (eqb x 45) refl e
   where
-    by : (t : Bool) → eqb x 45 ≡ t → cond t (longer 1 (plain_of true s)) (plain_of false (x ∷ s)) ≡ Short → Filled number_of (x ∷ s)
+    by : (t : Bool) → eqb x 45 ≡ t → cond t (longer 1 (plain_of true s)) (plain_of false (x ∷ s)) ≡ Err Part → Filled number_of (x ∷ s)
     by true m e =
         let f = plain_filled true s (longer_short 1 (plain_of true s) e) in
-        record { more = f.more; value = f.value; is = rw (m, f.is) (ap (Is f.value) (omega arith)) }
+        record { more = f.more; value = f.value; is = rw (m, f.is) (ap (λ (k : ℕ). Ok (f.value, k)) (omega arith)) }
     by false m e =
         let f = plain_filled false (x ∷ s) e in
         record { more = f.more; value = f.value; is = rw m f.is }
@@ -147,14 +148,14 @@ fit_begun (x ∷ xs) (y ∷ ys) e = by (eqb x y) refl e (fit_begun xs ys)
     by true f e ih = rw (ih e) (ap (λ (b : ℕ). b ∷ xs) (sym (eqb-true x y f)))
     by false f e ih = absurd (let y : ◌≡◌ {A = ℕ} 0 1 = cc in omega arith)
 
-pub line_filled : (name s : List ℕ) → line_of name s ≡ Short → Filled (line_of name) s
+pub line_filled : (name s : List ℕ) → line_of name s ≡ Err Part → Filled (line_of name) s
 unfolding line_of
 line_filled name s e = by (fit_of name s) refl e
   where
     k : ℕ
     k = length name
 
-    by : (f : Fit) → fit_of name s ≡ f → behind_name f (longer k (number_of (drop k s))) ≡ Short → Filled (line_of name) s
+    by : (f : Fit) → fit_of name s ≡ f → behind_name f (longer k (number_of (drop k s))) ≡ Err Part → Filled (line_of name) s
     by Yes f e =
         let i : k ≤ length s = fit_inside name s f in
         let r = number_filled (drop k s) (longer_short k (number_of (drop k s)) e) in
@@ -162,7 +163,7 @@ line_filled name s e = by (fit_of name s) refl e
         record {
           more = r.more;
           value = r.value;
-          is = rw (fit_stays name s r.more f, drop-append-le k s r.more i, r.is) (ap (Is r.value) size);
+          is = rw (fit_stays name s r.more f, drop-append-le k s r.more i, r.is) (ap (λ (k : ℕ). Ok (r.value, k)) size);
         }
     by Begun f e =
         let whole : s ++ (drop (length s) name ++ (48 ∷ 10 ∷ [])) ≡ name ++ (48 ∷ 10 ∷ []) =
@@ -176,6 +177,6 @@ line_filled name s e = by (fit_of name s) refl e
 
 -- and what comes behind it changes nothing
 pub filled_stays : (name s : List ℕ) (f : Filled (line_of name) s) (t : List ℕ)
-    → line_of name ((s ++ f.more) ++ t) ≡ Is f.value (length (s ++ f.more))
+    → line_of name ((s ++ f.more) ++ t) ≡ Ok (f.value, length (s ++ f.more))
 filled_stays name s f t =
     ⊎_elim (λ p. absurd (let q = f.is in let y : ◌≡◌ {A = ℕ} 0 1 = cc in omega arith)) (λ q. q ∙ f.is) (line_firm name (s ++ f.more) t)

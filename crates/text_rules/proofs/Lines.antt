@@ -10,8 +10,8 @@ use lib.ListN.{length, get_or, drop, length-drop, get_or-eq_default}
 use lib.IntN.{ℤ}
 use lib.Signed.{mag}
 use borrow.Author.Tests.{leb-false, leb-true, eqb-true, eqb-false}
-use Rattle.text_rules.specs.declared.number.Line.{Line}
-use Rattle.text_rules.specs.declared.number.Line.TheVariants.{Is, Short, Never}
+use Rattle.std.specs.Prelude.{Ok, Err}
+use Rattle.text_rules.specs.Number.{Line}
 use Rattle.text_rules.specs.declared.line.Fit.{Fit}
 use Rattle.text_rules.specs.declared.line.Fit.TheVariants.{Yes, Begun, No}
 use Rattle.text_rules.specs.Number.{digits_of, bad_zero, plain_of, longer, number_of}
@@ -29,9 +29,8 @@ inside s i {b} e = by (leb (length s) i) refl
     by false f = leb-false _ _ f
 
 abbrev pub Between : ℕ → ℕ → Line → Type 0
-Between low high (Is v n) = (low ≤ n) × (n ≤ high) × (mag v < 100000)
-Between low high Short = Unit
-Between low high Never = Unit
+Between low high (Ok (v, n)) = (low ≤ n) × (n ≤ high) × (mag v < 100000)
+Between low high (Err e) = Unit
 
 pub plain_between : (minus : Bool) (s : List ℕ) → Between 2 (length s) (plain_of minus s)
 unfolding plain_of
@@ -46,14 +45,12 @@ plain_between minus s =
 
 -- behind k bytes of s
 behind : (k low : ℕ) (s : List ℕ) (l : Line) → k ≤ length s → Between low (length (drop k s)) l → Between (k + low) (length s) (longer k l)
-behind k low s (Is v n) i h = let e : length (drop k s) ≡ length s - k = length-drop k s in (omega arith, omega arith, h.2)
-behind k low s Short i h = tt
-behind k low s Never i h = tt
+behind k low s (Ok (v, n)) i h = let e : length (drop k s) ≡ length s - k = length-drop k s in (omega arith, omega arith, h.2)
+behind k low s (Err e) i h = tt
 
 more : (low k high : ℕ) (l : Line) → Between (k + low) high l → Between low high l
-more low k high (Is v n) h = (omega arith, h.1, h.2)
-more low k high Short h = tt
-more low k high Never h = tt
+more low k high (Ok (v, n)) h = (omega arith, h.1, h.2)
+more low k high (Err e) h = tt
 
 pub number_between : (s : List ℕ) → Between 2 (length s) (number_of s)
 unfolding number_of
@@ -84,10 +81,23 @@ line_between name s = by (fit_of name s) refl
     by No e = tt
 
 -- a line that was read, and one that was read from a place on
-pub read_between : (name s : List ℕ) {v : ℤ} {n : ℕ} → line_of name s ≡ Is v n → (length name + 2 ≤ n) × (n ≤ length s) × (mag v < 100000)
+pub read_between : (name s : List ℕ) {v : ℤ} {n : ℕ} → line_of name s ≡ Ok (v, n) → (length name + 2 ≤ n) × (n ≤ length s) × (mag v < 100000)
 read_between name s e = rw e at (line_between name s)
 
-pub read_from : (name s : List ℕ) (at : ℕ) {v : ℤ} {n : ℕ} → at ≤ length s → line_of name (drop at s) ≡ Is v n → (length name + 2 ≤ n) × (at + n ≤ length s) × (mag v < 100000)
+pub read_from : (name s : List ℕ) (at : ℕ) {v : ℤ} {n : ℕ} → at ≤ length s → line_of name (drop at s) ≡ Ok (v, n) → (length name + 2 ≤ n) × (at + n ≤ length s) × (mag v < 100000)
 read_from name s at {v} {n} i e =
     let b : (length name + 2 ≤ n) × (n ≤ length (drop at s)) × (mag v < 100000) = read_between name (drop at s) e in
     (b.0, omega (arith, length-drop at s), b.2)
+
+-- what was read lies within its part
+within : {high : ℕ} {l : Line} {v : ℤ} {n : ℕ} → ◌≡◌ {A = Line} (Ok (v, n)) l → Between 2 high l → n ≤ high
+within e b = (rw (← e) at b).1
+
+pub plain_within : (minus : Bool) (s : List ℕ) {v : ℤ} {n : ℕ} → ◌≡◌ {A = Line} (Ok (v, n)) (plain_of minus s) → n ≤ length s
+plain_within minus s e = within e (plain_between minus s)
+
+pub number_within : (s : List ℕ) {v : ℤ} {n : ℕ} → ◌≡◌ {A = Line} (Ok (v, n)) (number_of s) → n ≤ length s
+number_within s e = within e (number_between s)
+
+pub line_within : (name s : List ℕ) {v : ℤ} {n : ℕ} → ◌≡◌ {A = Line} (Ok (v, n)) (line_of name s) → n ≤ length s
+line_within name s e = (rw (← e) at (line_between name s)).1

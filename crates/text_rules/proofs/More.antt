@@ -11,14 +11,14 @@ use lib.IntN.{ℤ}
 use lib.ListN.{length, get_or, drop, length-append, get_or-append}
 use lib.Seq.{drop-append-le}
 use borrow.Author.Tests.{leb-false, lt-leb, eqb-true, ltb-true, lt-ltb}
+use Rattle.text_rules.specs.declared.record.Unread.TheVariants.{Part, Malformed}
+use Rattle.std.specs.Prelude.{Ok, Err}
 use Rattle.text_rules.specs.declared.number.Digits.{Digits}
-use Rattle.text_rules.specs.declared.number.Line.{Line}
-use Rattle.text_rules.specs.declared.number.Line.TheVariants.{Is, Short, Never}
+use Rattle.text_rules.specs.Number.{Line}
 use Rattle.text_rules.specs.declared.line.Fit.{Fit}
 use Rattle.text_rules.specs.declared.line.Fit.TheVariants.{Yes, Begun, No}
 use Rattle.text_rules.specs.declared.record.Record.{Record}
-use Rattle.text_rules.specs.declared.record.Parsed.{Parsed}
-use Rattle.text_rules.specs.declared.record.Parsed.TheVariants.{Whole, Part, Malformed}
+use Rattle.text_rules.specs.Record.{Parsed}
 use Rattle.text_rules.specs.Number.{is_digit, gather_from, digits_of, bad_zero, plain_of, longer, number_of}
 use Rattle.text_rules.specs.Names.{kind_name, a_name, b_name, c_name}
 use Rattle.text_rules.specs.Line.{fit_of, behind_name, line_of}
@@ -86,14 +86,14 @@ module _ (s t : List ℕ) where
   unfolding digits_of
   digits_same = same 5 0 0
 
-  pub plain_firm : (minus : Bool) → Firm Short (plain_of minus s) (plain_of minus (s ++ t))
+  pub plain_firm : (minus : Bool) → Firm (Err Part) (plain_of minus s) (plain_of minus (s ++ t))
   unfolding plain_of
   plain_firm minus = by (bad_zero minus s n) (leb (length s) n) refl refl
     where
       n : ℕ
       n = (digits_of s).count
 
-      by : (b l : Bool) → bad_zero minus s n ≡ b → leb (length s) n ≡ l → Firm Short (plain_of minus s) (plain_of minus (s ++ t))
+      by : (b l : Bool) → bad_zero minus s n ≡ b → leb (length s) n ≡ l → Firm (Err Part) (plain_of minus s) (plain_of minus (s ++ t))
       by true l e f = inr (rw (e, bad_stays minus n (digits_of (s ++ t)).count digits_grow e))
       by false true e f = inl (rw (e, f))
       by false false e f =
@@ -101,10 +101,10 @@ module _ (s t : List ℕ) where
           let j : n < length (s ++ t) = rw length-append (omega arith) in
           inr (rw (digits_same i, get_or-append s t 0 0 (omega arith), get_or-append s t 0 n i, e, f, lt-leb (length (s ++ t)) n j))
 
-longer_firm : (k : ℕ) {x y : Line} → Firm Short x y → Firm Short (longer k x) (longer k y)
+longer_firm : (k : ℕ) {x y : Line} → Firm (Err Part) x y → Firm (Err Part) (longer k x) (longer k y)
 longer_firm k = ⊎_elim (λ e. inl (ap (longer k) e)) (λ e. inr (ap (longer k) e))
 
-pub number_firm : (s t : List ℕ) → Firm Short (number_of s) (number_of (s ++ t))
+pub number_firm : (s t : List ℕ) → Firm (Err Part) (number_of s) (number_of (s ++ t))
 unfolding number_of plain_of digits_of
 number_firm [] t = inl refl
 number_firm (x ∷ s) t = firm_cond (eqb x 45) (longer_firm 1 (plain_firm s t true)) (plain_firm (x ∷ s) t false)
@@ -115,11 +115,11 @@ fit_firm [] s t = inr refl
 fit_firm (x ∷ xs) [] t = inl refl
 fit_firm (x ∷ xs) (y ∷ ys) t = firm_cond (eqb x y) (fit_firm xs ys t) (inr refl)
 
-pub line_firm : (name s t : List ℕ) → Firm Short (line_of name s) (line_of name (s ++ t))
+pub line_firm : (name s t : List ℕ) → Firm (Err Part) (line_of name s) (line_of name (s ++ t))
 unfolding line_of
 line_firm name s t = by (fit_of name s) refl (fit_firm name s t)
   where
-    by : (f : Fit) → fit_of name s ≡ f → Firm Begun (fit_of name s) (fit_of name (s ++ t)) → Firm Short (behind_name f (longer (length name) (number_of (drop (length name) s)))) (behind_name (fit_of name (s ++ t)) (longer (length name) (number_of (drop (length name) (s ++ t)))))
+    by : (f : Fit) → fit_of name s ≡ f → Firm Begun (fit_of name s) (fit_of name (s ++ t)) → Firm (Err Part) (behind_name f (longer (length name) (number_of (drop (length name) s)))) (behind_name (fit_of name (s ++ t)) (longer (length name) (number_of (drop (length name) (s ++ t)))))
     by Yes e =
         ⊎_elim (λ b. absurd (let z : ◌≡◌ {A = ℕ} 0 1 = cc in omega arith))
         (λ q. rw (q, e, drop-append-le (length name) s t (fit_inside name s e)) (longer_firm (length name) (number_firm (drop (length name) s) t)))
@@ -127,18 +127,18 @@ line_firm name s t = by (fit_of name s) refl (fit_firm name s t)
     by No e = ⊎_elim (λ b. absurd (let z : ◌≡◌ {A = ℕ} 0 1 = cc in omega arith)) (λ q. inr (rw (q, e)))
 
 -- from a place on
-line_from : (name s t : List ℕ) (at : ℕ) → at ≤ length s → Firm Short (line_of name (drop at s)) (line_of name (drop at (s ++ t)))
+line_from : (name s t : List ℕ) (at : ℕ) → at ≤ length s → Firm (Err Part) (line_of name (drop at s)) (line_of name (drop at (s ++ t)))
 line_from name s t at i = rw (drop-append-le at s t i) (line_firm name (drop at s) t)
 
-next_firm : (l l' : Line) {f g : ℤ → ℕ → Parsed} → Firm Short l l' → ((v : ℤ) (n : ℕ) → l ≡ Is v n → Firm Part (f v n) (g v n)) → Firm Part (next l f) (next l' g)
+next_firm : (l l' : Line) {f g : ℤ → ℕ → Parsed} → Firm (Err Part) l l' → ((v : ℤ) (n : ℕ) → l ≡ Ok (v, n) → Firm (Err Part) (f v n) (g v n)) → Firm (Err Part) (next l f) (next l' g)
 next_firm l l' {f} {g} p h = ⊎_elim (λ e. inl (rw e)) (λ e. rw e (by l h)) p
   where
-    by : (l : Line) → ((v : ℤ) (n : ℕ) → l ≡ Is v n → Firm Part (f v n) (g v n)) → Firm Part (next l f) (next l g)
-    by (Is v n) h = h v n refl
-    by Short h = inl refl
-    by Never h = inr refl
+    by : (l : Line) → ((v : ℤ) (n : ℕ) → l ≡ Ok (v, n) → Firm (Err Part) (f v n) (g v n)) → Firm (Err Part) (next l f) (next l g)
+    by (Ok (v, n)) h = h v n refl
+    by (Err Part) h = inl refl
+    by (Err Malformed) h = inr refl
 
-pub record_firm : (s t : List ℕ) → Firm Part (record_of s) (record_of (s ++ t))
+pub record_firm : (s t : List ℕ) → Firm (Err Part) (record_of s) (record_of (s ++ t))
 unfolding record_of
 record_firm s t =
     next_firm (line_of kind_name s) (line_of kind_name (s ++ t)) (line_firm kind_name s t)
@@ -149,8 +149,8 @@ record_firm s t =
     (λ b k g. let z = read_from b_name s (n + m) y.1 g in
     next_firm (line_of c_name (drop (n + m + k) s)) (line_of c_name (drop (n + m + k) (s ++ t))) (line_from c_name s t (n + m + k) z.1) (λ c j h. inr refl))))
 
-pub whole_stays : (s t : List ℕ) {r : Record} {n : ℕ} → record_of s ≡ Whole r n → record_of (s ++ t) ≡ Whole r n
+pub whole_stays : (s t : List ℕ) {r : Record} {n : ℕ} → record_of s ≡ Ok (r, n) → record_of (s ++ t) ≡ Ok (r, n)
 whole_stays s t e = ⊎_elim (λ p. absurd (let z : ◌≡◌ {A = ℕ} 0 1 = cc in omega arith)) (λ q. q ∙ e) (record_firm s t)
 
-pub refusal_stays : (s t : List ℕ) → record_of s ≡ Malformed → record_of (s ++ t) ≡ Malformed
+pub refusal_stays : (s t : List ℕ) → record_of s ≡ Err Malformed → record_of (s ++ t) ≡ Err Malformed
 refusal_stays s t e = ⊎_elim (λ p. absurd (let z : ◌≡◌ {A = ℕ} 0 1 = cc in omega arith)) (λ q. q ∙ e) (record_firm s t)

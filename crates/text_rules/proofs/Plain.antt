@@ -9,7 +9,7 @@ use lib.Dec.{leb}
 use lib.ListN.{length, get_or, drop, length-append}
 use lib.Seq.{get_or-drop, drop-drop, get_or-append_seam}
 use borrow.Author.Tests.{lt-leb, ne_eqb}
-use Rattle.text_rules.specs.declared.number.Line.TheVariants.{Is}
+use Rattle.std.specs.Prelude.{Ok}
 use Rattle.text_rules.specs.Number.{is_digit, gather_from, digits_of, bad_zero, signed_as, plain_of}
 
 abbrev pub AllDigits : List ℕ → Type 0
@@ -42,7 +42,7 @@ gathered (d ∷ ds) rest s (suc room) v n all h e =
 -- a number behind its sign: digits, byte 10, and what comes behind
 pub plain_reads : (minus : Bool) (ds rest : List ℕ) → AllDigits ds → 1 ≤ length ds → length ds ≤ 5
     → bad_zero minus (ds ++ (10 ∷ rest)) (length ds) ≡ false
-    → plain_of minus (ds ++ (10 ∷ rest)) ≡ Is (signed_as minus (worth 0 ds)) (length ds + 1)
+    → plain_of minus (ds ++ (10 ∷ rest)) ≡ Ok (signed_as minus (worth 0 ds), length ds + 1)
 unfolding plain_of digits_of
 plain_reads minus ds rest all some few good =
     let s = ds ++ (10 ∷ rest) in

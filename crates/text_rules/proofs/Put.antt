@@ -1,18 +1,15 @@
 -- A text at the front of what is lent: what a writer's two answers say, and a second text put behind the first. Lists by `lib.Seq`.
 -- Assumes nothing.
-use Prim.Native.Nat.{ℕ, suc, ◌+◌, ◌-◌, ◌≤◌, ◌<◌}
-use native.Mathlib.Nat.{zero-add}
-use native.Mathlib.Numerals.{add-one}
+use Prim.Native.Nat.{ℕ, ◌+◌, ◌-◌, ◌≤◌, ◌<◌}
 use native.Mathlib.Omega.{arith}
 use mathlib.Core.Bool.{Bool, true, false}
 use mathlib.Core.Path.{◌≡◌, refl, sym, ap, ◌∙◌}
-use mathlib.Core.List.{List, [], ◌∷◌, ◌++◌, append_assoc, append-nil}
+use mathlib.Core.List.{List, [], ◌++◌, append_assoc, append-nil}
 use borrow.Author.Tests.{le-leb, lt-leb, leb-true, leb-false}
 use lib.Dec.{leb}
-use lib.ListN.{length, take, drop, set, length-append, length-drop, drop_of_length-le, take-append-drop}
-use lib.Seq.{sets, sets-eq, take_all, take_at, drop_at, set_at, drop-cons, drop-drop, append_snoc}
-use Rattle.text_rules.specs.declared.answer.Wrote.{Wrote}
-use Rattle.text_rules.specs.declared.answer.Wrote.TheVariants.{Bytes, NoRoom}
+use lib.ListN.{length, take, drop, length-append, length-drop, drop_of_length-le}
+use lib.Seq.{take_all, take_at, drop_at, drop-drop}
+use Rattle.std.specs.Prelude.{Option, Some, None}
 use Rattle.text_rules.specs.Answer.{Front, Put}
 
 -- what is lent as `&mut out[n..]` is all of the rest
@@ -31,68 +28,35 @@ module _ {text before after : List ℕ} where
   pub front_room : {n m : ℕ} → Front text before after n → n + m ≤ length before → m ≤ length (take (length after - n) (drop n after))
   front_room {n} f h = rw (rest n after, length-drop) (omega (arith, front_length f))
 
-  -- one byte more
-  pub front_more : {n : ℕ} (b : ℕ) → Front text before after n → n < length before → Front (text ++ (b ∷ [])) before (set after n b) (n + 1)
-  front_more {n} b f h =
-      let k : length text < length before = omega (arith, f.count) in
-      let e : length (text ++ (b ∷ [])) ≡ suc (length text) = length-append text (b ∷ []) ∙ add-one (length text) in
-      record {
-        room = rw e k;
-        count = rw (e, f.count) (add-one (length text));
-        bytes =
-            ap (λ (l : List ℕ). set l n b) (f.bytes ∙ ap (λ (l : List ℕ). text ++ l) (drop-cons before (length text) 0 k))
-            ∙ set_at text _ _ b n (sym f.count)
-            ∙ sym (append_snoc text b _)
-            ∙ ap (λ (m : ℕ). (text ++ (b ∷ [])) ++ drop m before) (sym e);
-      }
-
   -- what is written is at the front, and where there is no room nothing is written
-  pub put_front : {r : Wrote} {n : ℕ} → Put text before after r → r ≡ Bytes n → Front text before after n
+  pub put_front : {r : Option ℕ} {n : ℕ} → Put text before after r → r ≡ Some n → Front text before after n
   put_front {r} {n} p e = by (leb (length text) (length before)) refl
     where
       by : (t : Bool) → leb (length text) (length before) ≡ t → Front text before after n
       by true q =
           record {
             room = leb-true _ _ q;
-            count = let w : Bytes n ≡ Bytes (length text) = sym e ∙ p.said ∙ rw q in cc;
+            count = let w : Some n ≡ Some (length text) = sym e ∙ p.said ∙ rw q in cc;
             bytes = p.bytes ∙ rw q;
           }
-      by false q = absurd (let w : Bytes n ≡ NoRoom = sym e ∙ p.said ∙ rw q in let z : ◌≡◌ {A = ℕ} 0 1 = cc in omega arith)
+      by false q = absurd (let w : Some n ≡ None = sym e ∙ p.said ∙ rw q in let z : ◌≡◌ {A = ℕ} 0 1 = cc in omega arith)
 
-  pub put_none : {r : Wrote} → Put text before after r → r ≡ NoRoom → (length before < length text) × (after ≡ before)
+  pub put_none : {r : Option ℕ} → Put text before after r → r ≡ None → (length before < length text) × (after ≡ before)
   put_none {r} p e = by (leb (length text) (length before)) refl
     where
       by : (t : Bool) → leb (length text) (length before) ≡ t → (length before < length text) × (after ≡ before)
-      by true q = absurd (let w : NoRoom ≡ Bytes (length text) = sym e ∙ p.said ∙ rw q in let z : ◌≡◌ {A = ℕ} 0 1 = cc in omega arith)
+      by true q = absurd (let w : None ≡ Some (length text) = sym e ∙ p.said ∙ rw q in let z : ◌≡◌ {A = ℕ} 0 1 = cc in omega arith)
       by false q = (leb-false _ _ q, p.bytes ∙ rw q)
 
   -- the same, from the room
-  pub put_fits : {r : Wrote} → Put text before after r → length text ≤ length before → (r ≡ Bytes (length text)) × Front text before after (length text)
-  put_fits {r} p h = let e : r ≡ Bytes (length text) = p.said ∙ rw (le-leb _ _ h) in (e, put_front p e)
+  pub put_fits : {r : Option ℕ} → Put text before after r → length text ≤ length before → (r ≡ Some (length text)) × Front text before after (length text)
+  put_fits {r} p h = let e : r ≡ Some (length text) = p.said ∙ rw (le-leb _ _ h) in (e, put_front p e)
 
-  pub put_full : {r : Wrote} → Put text before after r → length before < length text → (r ≡ NoRoom) × (after ≡ before)
-  put_full {r} p h = let e : r ≡ NoRoom = p.said ∙ rw (lt-leb _ _ h) in (e, (put_none p e).1)
-
-  pub put_length : {r : Wrote} → Put text before after r → length after ≡ length before
-  put_length p = by (leb (length text) (length before)) refl
-    where
-      by : (t : Bool) → leb (length text) (length before) ≡ t → length after ≡ length before
-      by true q = front_length (put_fits p (leb-true _ _ q)).1
-      by false q = ap length (put_full p (leb-false _ _ q)).1
-
-  -- a writer's two ways
-  pub front_put : {n : ℕ} → Front text before after n → Put text before after (Bytes n)
-  front_put f = record { said = rw (le-leb _ _ f.room) (ap Bytes f.count); bytes = f.bytes ∙ rw (le-leb _ _ f.room) }
-
-pub none_put : {text before : List ℕ} → length before < length text → Put text before before NoRoom
+pub none_put : {text before : List ℕ} → length before < length text → Put text before before None
 none_put h = record { said = rw (lt-leb _ _ h); bytes = rw (lt-leb _ _ h) }
 
 pub front_none : {l : List ℕ} → Front [] l l 0
 front_none = record { room = omega arith; count = refl; bytes = refl }
-
--- bytes stored one after the other
-pub stored : (vs before : List ℕ) → length vs ≤ length before → Front vs before (sets before 0 vs) (length vs)
-stored vs before h = record { room = h; count = refl; bytes = sets-eq vs before 0 (omega arith) ∙ rw zero-add }
 
 -- what stands in `out` after a text was put into `&mut out[n..]`
 pub front_then : {T S x₀ x ys : List ℕ} {n k : ℕ} → Front T x₀ x n → Front S (take (length x - n) (drop n x)) ys k
@@ -108,14 +72,3 @@ front_then {T} {S} {x₀} {x} {ys} {n} {k} f g =
       count = omega (arith, length-append T S, f.count, g.count);
       bytes = rw (front, none, g.bytes, part, append-nil, drop-drop, length-append, append_assoc, f.count);
     }
-
--- what a loop learns of a writer that it lends `&mut out[n..]`: the text stands behind what stood, or there was no room for it
-module _ {T S x₀ x ys : List ℕ} {n : ℕ} {r : Wrote} (f : Front T x₀ x n) (p : Put S (take (length x - n) (drop n x)) ys r) where
-  pub put_then : {k : ℕ} → r ≡ Bytes k → Front (T ++ S) x₀ (take n x ++ (ys ++ drop (length x - n) (drop n x))) (n + k)
-  put_then e = front_then f (put_front p e)
-
-  pub full_then : r ≡ NoRoom → (length x₀ < n + length S) × (take n x ++ (ys ++ drop (length x - n) (drop n x)) ≡ x)
-  full_then e =
-      let q = put_none p e in
-      let less : length (drop n x) < length S = rw (rest n x) at q.0 in
-      (omega (arith, length-drop n x, front_length f), rw (q.1, take-append-drop, take-append-drop))

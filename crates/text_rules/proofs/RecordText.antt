@@ -9,13 +9,12 @@ use lib.IntN.{ℤ, nat_abs}
 use lib.ListN.{length, drop, length-append}
 use lib.Seq.{drop-append_seam, drop-drop}
 use borrow.Author.Tests.{eqb-true}
-use Rattle.text_rules.specs.declared.number.Line.{Line}
-use Rattle.text_rules.specs.declared.number.Line.TheVariants.{Is, Short, Never}
+use Rattle.std.specs.Prelude.{Ok, Err}
+use Rattle.text_rules.specs.Number.{Line}
 use Rattle.text_rules.specs.declared.line.Fit.{Fit}
 use Rattle.text_rules.specs.declared.line.Fit.TheVariants.{Yes, Begun, No}
 use Rattle.text_rules.specs.declared.record.Record.{Record}
-use Rattle.text_rules.specs.declared.record.Parsed.{Parsed}
-use Rattle.text_rules.specs.declared.record.Parsed.TheVariants.{Whole, Part, Malformed}
+use Rattle.text_rules.specs.Record.{Parsed}
 use Rattle.text_rules.specs.Names.{kind_name, a_name, b_name, c_name}
 use Rattle.text_rules.specs.Number.{longer, number_of}
 use Rattle.text_rules.specs.Line.{fit_of, behind_name, line_of}
@@ -28,13 +27,13 @@ use Rattle.text_rules.proofs.Filled.{fit_front}
 use Rattle.text_rules.proofs.Written.{written_is_read}
 
 line_read : (name : List ℕ) (z : ℤ) (rest : List ℕ) → nat_abs z ≤ 99999
-    → line_of name (line_written name z ++ rest) ≡ Is z (length (line_written name z))
+    → line_of name (line_written name z ++ rest) ≡ Ok (z, length (line_written name z))
 unfolding line_of line_written
 line_read name z rest h =
     let t = written_number z ++ (10 ∷ rest) in
     let whole : (name ++ (written_number z ++ (10 ∷ []))) ++ rest ≡ name ++ (written_number z ++ (10 ∷ rest)) = simp append_assoc in
     let size : length name + (length (written_number z) + 1) ≡ length (name ++ (written_number z ++ (10 ∷ []))) = simp length-append in
-    rw (whole, fit_front name t, drop-append_seam name t, written_is_read z rest h) (ap (Is z) size)
+    rw (whole, fit_front name t, drop-append_seam name t, written_is_read z rest h) (ap (λ (k : ℕ). Ok (z, k)) size)
 
 -- a line read, and what follows is read from its end on
 chain_read : (name : List ℕ) (later : ℤ → ℕ → List ℕ → Parsed) (z : ℤ) (rest : List ℕ) → nat_abs z ≤ 99999
@@ -55,9 +54,9 @@ written_record_is_read r rest few =
     ∙ chain_read kind_name second r.kind (A ++ (B ++ (C ++ rest))) few.kind
     ∙ chain_read a_name (λ a m. third r.kind a (length K + m)) r.a (B ++ (C ++ rest)) few.a
     ∙ chain_read b_name (λ b k. fourth r.kind r.a b (length K + length A + k)) r.b (C ++ rest) few.b
-    ∙ chain_read c_name (λ c j u. Whole (record { kind = r.kind; a = r.a; b = r.b; c = c }) (length K + length A + length B + j)) r.c rest
+    ∙ chain_read c_name (λ c j u. Ok (record { kind = r.kind; a = r.a; b = r.b; c = c }, length K + length A + length B + j)) r.c rest
     few.c
-    ∙ ap (Whole r) size)
+    ∙ ap (λ (k : ℕ). Ok (r, k)) size)
 
 fit_yes : (xs s : List ℕ) → fit_of xs s ≡ Yes → s ≡ xs ++ drop (length xs) s
 unfolding fit_of
@@ -76,14 +75,14 @@ record BeganLine (name s : List ℕ) (z : ℤ) (n : ℕ) : Type 0 where
   begins : s ≡ line_written name z ++ drop n s
   count : n ≡ length (line_written name z)
 
-line_was : (name s : List ℕ) (z : ℤ) (n : ℕ) → line_of name s ≡ Is z n → BeganLine name s z n
+line_was : (name s : List ℕ) (z : ℤ) (n : ℕ) → line_of name s ≡ Ok (z, n) → BeganLine name s z n
 unfolding line_of line_written
 line_was name s z n e = by (fit_of name s) refl e
   where
     k : ℕ
     k = length name
 
-    named : fit_of name s ≡ Yes → (m : ℕ) → number_of (drop k s) ≡ Is z m → n ≡ k + m → BeganLine name s z n
+    named : fit_of name s ≡ Yes → (m : ℕ) → number_of (drop k s) ≡ Ok (z, m) → n ≡ k + m → BeganLine name s z n
     named f m e g =
         let w = read_was_written (drop k s) z m e in
         let d : drop m (drop k s) ≡ drop n s = drop-drop m k s ∙ ap (λ (i : ℕ). drop i s) (sym g) in
@@ -94,7 +93,7 @@ line_was name s z n e = by (fit_of name s) refl e
           count = simp length-append (omega (arith, w.count));
         }
 
-    by : (f : Fit) → fit_of name s ≡ f → behind_name f (longer k (number_of (drop k s))) ≡ Is z n → BeganLine name s z n
+    by : (f : Fit) → fit_of name s ≡ f → behind_name f (longer k (number_of (drop k s))) ≡ Ok (z, n) → BeganLine name s z n
     by Yes f e = let r = without k (number_of (drop k s)) e in named f r.0 r.1 r.2
     by Begun f e = absurd (let y : ◌≡◌ {A = ℕ} 0 1 = cc in omega arith)
     by No f e = absurd (let y : ◌≡◌ {A = ℕ} 0 1 = cc in omega arith)
@@ -104,16 +103,15 @@ record Chained (name : List ℕ) (later : ℤ → ℕ → List ℕ → Parsed) (
   value : ℤ
   size : ℕ
   line : BeganLine name s value size
-  on : later value size (drop size s) ≡ Whole r n
+  on : later value size (drop size s) ≡ Ok (r, n)
 
 chained : (name : List ℕ) (later : ℤ → ℕ → List ℕ → Parsed) (s : List ℕ) {r : Record} {n : ℕ}
-    → chain name later s ≡ Whole r n → Chained name later s r n
+    → chain name later s ≡ Ok (r, n) → Chained name later s r n
 chained name later s {r} {n} e = by (line_of name s) refl e
   where
-    by : (l : Line) → line_of name s ≡ l → next l (λ v m. later v m (drop m s)) ≡ Whole r n → Chained name later s r n
-    by (Is v m) f e = record { value = v; size = m; line = line_was name s v m f; on = e }
-    by Short f e = absurd (let y : ◌≡◌ {A = ℕ} 0 1 = cc in omega arith)
-    by Never f e = absurd (let y : ◌≡◌ {A = ℕ} 0 1 = cc in omega arith)
+    by : (l : Line) → line_of name s ≡ l → next l (λ v m. later v m (drop m s)) ≡ Ok (r, n) → Chained name later s r n
+    by (Ok (v, m)) f e = record { value = v; size = m; line = line_was name s v m f; on = e }
+    by (Err x) f e = absurd (let y : ◌≡◌ {A = ℕ} 0 1 = cc in omega arith)
 
 joined : (s : List ℕ) (kind a b c : ℤ) (n m k j : ℕ) → BeganLine kind_name s kind n → BeganLine a_name (drop n s) a m
     → BeganLine b_name (drop m (drop n s)) b k → BeganLine c_name (drop k (drop m (drop n s))) c j
@@ -139,25 +137,24 @@ joined s kind a b c n m k j x y z w =
 
 -- the same, of a record that was read
 abbrev Of : List ℕ → Parsed → Type 0
-Of s (Whole r n) = BeganRecord s r n
-Of s Part = Unit
-Of s Malformed = Unit
+Of s (Ok (r, n)) = BeganRecord s r n
+Of s (Err e) = Unit
 
 module _ (s : List ℕ) {r : Record} {n : ℕ} where
   fourth_was : (kind a b : ℤ) (i m k : ℕ) → BeganLine kind_name s kind i → BeganLine a_name (drop i s) a m → BeganLine b_name (drop m (drop i s)) b k
-      → fourth kind a b (i + m + k) (drop k (drop m (drop i s))) ≡ Whole r n → BeganRecord s r n
+      → fourth kind a b (i + m + k) (drop k (drop m (drop i s))) ≡ Ok (r, n) → BeganRecord s r n
   fourth_was kind a b i m k x y z e =
-      let C = chained c_name (λ c j u. Whole (record { kind = kind; a = a; b = b; c = c }) (i + m + k + j)) (drop k (drop m (drop i s))) e in
+      let C = chained c_name (λ c j u. Ok (record { kind = kind; a = a; b = b; c = c }, i + m + k + j)) (drop k (drop m (drop i s))) e in
       let w = joined s kind a b C.value i m k C.size x y z C.line in
-      subst (Of s) {x = Whole (record { kind = kind; a = a; b = b; c = C.value }) (i + m + k + C.size)} C.on w
+      subst (Of s) {x = Ok (record { kind = kind; a = a; b = b; c = C.value }, i + m + k + C.size)} C.on w
 
   third_was : (kind a : ℤ) (i m : ℕ) → BeganLine kind_name s kind i → BeganLine a_name (drop i s) a m
-      → third kind a (i + m) (drop m (drop i s)) ≡ Whole r n → BeganRecord s r n
+      → third kind a (i + m) (drop m (drop i s)) ≡ Ok (r, n) → BeganRecord s r n
   third_was kind a i m x y e =
       let B = chained b_name (λ b k. fourth kind a b (i + m + k)) (drop m (drop i s)) e in
       fourth_was kind a B.value i m B.size x y B.line B.on
 
-  second_was : (kind : ℤ) (i : ℕ) → BeganLine kind_name s kind i → second kind i (drop i s) ≡ Whole r n → BeganRecord s r n
+  second_was : (kind : ℤ) (i : ℕ) → BeganLine kind_name s kind i → second kind i (drop i s) ≡ Ok (r, n) → BeganRecord s r n
   second_was kind i x e =
       let A = chained a_name (λ a m. third kind a (i + m)) (drop i s) e in
       third_was kind A.value i A.size x A.line A.on

@@ -11,7 +11,7 @@ use lib.Dec.{eqb, ltb}
 use lib.IntN.ℤ.{pos, negsuc}
 use lib.ListN.{length, get_or, length-append, get_or-append}
 use borrow.Author.Tests.{le-ltb, ltb-true, ltb-false, ne_eqb}
-use Rattle.text_rules.specs.declared.number.Line.TheVariants.{Is}
+use Rattle.std.specs.Prelude.{Ok}
 use Rattle.text_rules.specs.Number.{is_digit, bad_zero, signed_as, plain_of, number_of}
 use Rattle.text_rules.proofs.Choice.{choice}
 use Rattle.text_rules.specs.Written.{WrittenIsRead, digit_count, last_digits, written_natural}
@@ -99,7 +99,7 @@ module _ (n : ℕ) (rest : List ℕ) (h : n ≤ 99999) where
       by false some (inl e) = rw e (and-false (eqb (48 + n % 10) 48))
 
   natural_read : (minus : Bool) → (minus ≡ true → 1 ≤ n)
-      → plain_of minus (written_natural n ++ (10 ∷ rest)) ≡ Is (signed_as minus n) (length (written_natural n) + 1)
+      → plain_of minus (written_natural n ++ (10 ∷ rest)) ≡ Ok (signed_as minus n, length (written_natural n) + 1)
   unfolding written_natural
   natural_read minus some =
       let z : Sized n (digit_count n) = sized n h in

@@ -1,8 +1,8 @@
 -- Document 01, Traces and their replay: what the reader takes for a part of a record is one. More bytes make a record of it, and change
 -- nothing else that was read: a record stays that record, and what is none stays none. Proved in proofs/Completed.antt. Assumes nothing.
-use Rattle.std.specs.Prelude.{ℕ, ◌≡◌, List, ◌++◌}
+use Rattle.std.specs.Prelude.{ℕ, ◌≡◌, List, ◌++◌, Ok, Err}
+use Rattle.text_rules.specs.declared.record.Unread.TheVariants.{Part, Malformed}
 use Rattle.text_rules.specs.declared.record.Record.{Record}
-use Rattle.text_rules.specs.declared.record.Parsed.TheVariants.{Whole, Part, Malformed}
 use Rattle.text_rules.specs.Record.{record_of}
 
 -- bytes, and the record of four numbers and its length that they make behind s
@@ -10,13 +10,13 @@ pub record Completed (s : List ℕ) : Type 0 where
   pub more : List ℕ
   pub numbers : Record
   pub size : ℕ
-  pub is : record_of (s ++ more) ≡ Whole numbers size
+  pub is : record_of (s ++ more) ≡ Ok (numbers, size)
 
 abbrev pub PartIsCompleted : Type 0
-PartIsCompleted = (s : List ℕ) → record_of s ≡ Part → Completed s
+PartIsCompleted = (s : List ℕ) → record_of s ≡ Err Part → Completed s
 
 abbrev pub WholeStays : Type 0
-WholeStays = (s more : List ℕ) (r : Record) (n : ℕ) → record_of s ≡ Whole r n → record_of (s ++ more) ≡ Whole r n
+WholeStays = (s more : List ℕ) (r : Record) (n : ℕ) → record_of s ≡ Ok (r, n) → record_of (s ++ more) ≡ Ok (r, n)
 
 abbrev pub RefusalStays : Type 0
-RefusalStays = (s more : List ℕ) → record_of s ≡ Malformed → record_of (s ++ more) ≡ Malformed
+RefusalStays = (s more : List ℕ) → record_of s ≡ Err Malformed → record_of (s ++ more) ≡ Err Malformed

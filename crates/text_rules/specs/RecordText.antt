@@ -1,9 +1,8 @@
 -- Document 01, Traces and their replay, "A record is four lines, in this order, each ended by byte 10: kind, a, b, c, each a name, an equals
 -- sign and a number": how a record is written, byte by byte and without the reader, and two claims. What is written so is read as that
 -- record, whatever comes behind it; and what is read as a record was written so. Proved in proofs/RecordText.antt. Assumes nothing.
-use Rattle.std.specs.Prelude.{ℕ, ◌≤◌, ◌≡◌, List, [], ◌∷◌, ◌++◌, ℤ, nat_abs, length, drop}
+use Rattle.std.specs.Prelude.{ℕ, ◌≤◌, ◌≡◌, List, [], ◌∷◌, ◌++◌, ℤ, nat_abs, length, drop, Ok}
 use Rattle.text_rules.specs.declared.record.Record.{Record}
-use Rattle.text_rules.specs.declared.record.Parsed.TheVariants.{Whole}
 use Rattle.text_rules.specs.Record.{record_of}
 use Rattle.text_rules.specs.Written.{written_number}
 
@@ -25,7 +24,7 @@ pub record FiveDigits (r : Record) : Type 0 where
   pub c : nat_abs r.c ≤ 99999
 
 abbrev pub WrittenRecordIsRead : Type 0
-WrittenRecordIsRead = (r : Record) (rest : List ℕ) → FiveDigits r → record_of (record_text r ++ rest) ≡ Whole r (length (record_text r))
+WrittenRecordIsRead = (r : Record) (rest : List ℕ) → FiveDigits r → record_of (record_text r ++ rest) ≡ Ok (r, length (record_text r))
 
 -- the text begins with the record as it is written, and what was read of it is as long
 pub record BeganRecord (s : List ℕ) (r : Record) (n : ℕ) : Type 0 where
@@ -34,4 +33,4 @@ pub record BeganRecord (s : List ℕ) (r : Record) (n : ℕ) : Type 0 where
   pub count : n ≡ length (record_text r)
 
 abbrev pub ReadRecordWasWritten : Type 0
-ReadRecordWasWritten = (s : List ℕ) (r : Record) (n : ℕ) → record_of s ≡ Whole r n → BeganRecord s r n
+ReadRecordWasWritten = (s : List ℕ) (r : Record) (n : ℕ) → record_of s ≡ Ok (r, n) → BeganRecord s r n

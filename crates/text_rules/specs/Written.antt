@@ -1,9 +1,8 @@
 -- Document 01, Traces and their replay, "Numbers are decimal, 1 to 5 digits, with a leading minus where negative; no plus, no leading zero,
 -- no -0": how a number is written, said without the reader, and two claims. What is written so is read as that number; and what is read
 -- as a number was written so. Proved in proofs/Written.antt and proofs/Begins.antt. Assumes nothing.
-use Rattle.std.specs.Prelude.{ℕ, zero, suc, ◌+◌, ◌/◌, ◌%◌, ◌≤◌, ◌≡◌, cond, List, [], ◌∷◌, ◌++◌, ltb, ℤ, nat_abs, length, drop}
+use Rattle.std.specs.Prelude.{ℕ, zero, suc, ◌+◌, ◌/◌, ◌%◌, ◌≤◌, ◌≡◌, cond, List, [], ◌∷◌, ◌++◌, ltb, ℤ, nat_abs, length, drop, Ok}
 use Rattle.std.proofs.Math.IntN.ℤ.{pos, negsuc}
-use Rattle.text_rules.specs.declared.number.Line.TheVariants.{Is}
 use Rattle.text_rules.specs.Number.{number_of}
 
 -- the last k decimal digits of n, as bytes
@@ -25,7 +24,7 @@ written_number (negsuc n) = 45 ∷ written_natural (suc n)
 
 abbrev pub WrittenIsRead : Type 0
 WrittenIsRead =
-    (z : ℤ) (rest : List ℕ) → nat_abs z ≤ 99999 → number_of (written_number z ++ (10 ∷ rest)) ≡ Is z (length (written_number z) + 1)
+    (z : ℤ) (rest : List ℕ) → nat_abs z ≤ 99999 → number_of (written_number z ++ (10 ∷ rest)) ≡ Ok (z, length (written_number z) + 1)
 
 -- the text begins with the number as it is written and byte 10, and what was read of it is as long
 pub record Began (s : List ℕ) (z : ℤ) (n : ℕ) : Type 0 where
@@ -34,4 +33,4 @@ pub record Began (s : List ℕ) (z : ℤ) (n : ℕ) : Type 0 where
   pub count : n ≡ length (written_number z) + 1
 
 abbrev pub ReadWasWritten : Type 0
-ReadWasWritten = (s : List ℕ) (z : ℤ) (n : ℕ) → number_of s ≡ Is z n → Began s z n
+ReadWasWritten = (s : List ℕ) (z : ℤ) (n : ℕ) → number_of s ≡ Ok (z, n) → Began s z n

@@ -7,10 +7,9 @@ pub struct Record {
     pub c: i32,
 }
 
-// What stands at the front of a part: a whole record with its length, a part of one that more bytes could complete, or neither.
-#[derive(Clone, Copy)]
-pub enum Parsed {
-    Whole(Record, usize),
+// Why a line or a record was not read: the bytes end in a part of one, that more bytes could complete; or no bytes could.
+#[derive(Clone, Copy, PartialEq, Eq)]
+pub enum Unread {
     Part,
     Malformed,
 }

@@ -19,16 +19,12 @@ pub fn scale(channel: Channel) -> u16
     }
 }
 
-// Signed quarters. They are counted unsigned first, and a high byte of 128 or more stands for 256 less, 1024 quarters.
+// Signed quarters.
+#[tactic(auto, unfolding(rules::specs::Values::offset_of))]
 pub fn offset(high: u8, fine: u8) -> i16
     ensures { result ≡ offset_of high fine }
 {
-    let quarters = (high as u16) * 4 + (fine as u16) / 64;
-    if high < 128 {
-        quarters as i16
-    } else {
-        quarters as i16 - 1024
-    }
+    i16::from(high.cast_signed()) * 4 + i16::from(fine / 64)
 }
 
 // The largest code of the channel's range.
@@ -50,23 +46,18 @@ fn shift(channel: Channel, wide: bool) -> u16
 fn clamp(top: u16, x: i32) -> u16
     ensures { result ≡ clamp_of top x }
 {
-    if x < 0 {
-        0
-    } else if x < top as i32 {
-        x as u16
-    } else {
-        top
-    }
+    x.clamp(0, i32::from(top)) as u16
 }
 
 // Three numbers of 16 bits: their sum is exact.
 fn sum(sample: i16, offset: i16, shift: u16) -> i32
     ensures { result ≡ sample +ℤ offset +ℤ pos shift }
 {
-    sample as i32 + offset as i32 + shift as i32
+    i32::from(sample) + i32::from(offset) + i32::from(shift)
 }
 
 // The clamp comes after the whole sum.
+#[tactic(auto, unfolding(rules::specs::Values::code_of))]
 pub fn code(channel: Channel, wide: bool, offset: i16, sample: i16) -> u16
     ensures { result ≡ code_of (scale_of channel) wide offset sample }
 {

@@ -8,55 +8,57 @@ use lib.ListN.{length}
 use Rattle.rules.specs.declared.state.State.{State}
 use Rattle.text_rules.specs.Sizes.{shortest_record}
 use Rattle.text_rules.proofs.Put.{front_held, front_length}
-use Rattle.replay_rules.specs.declared.play.Turn.{Turn}
-use Rattle.replay_rules.specs.declared.play.Turn.TheVariants.{Went}
-use Rattle.replay_rules.specs.Play.{Mid, Turned}
+use Rattle.std.specs.Prelude.{Ok}
+use Rattle.replay_rules.specs.declared.play.Went.{Went}
+use Rattle.replay_rules.specs.Play.{Mid, Turn, Turned}
 use Rattle.replay_rules.proofs.Plays.{back, from, mid_bad, mid_end, mid_step, mid_stop, turn_long}
 use Rattle.replay.proofs.play.play.Goals as goal
 
-pub returns-then-d-trace : goal.returns-then-d-trace
-returns-then-d-trace c = mid_end c.begin-d.ensures.mid (omega (arith, c.if-d-trace.true))
+pub returns-then-p-trace : goal.returns-then-p-trace
+returns-then-p-trace c = mid_end c.begin-d.ensures.mid (omega (arith, c.if-p-trace.true))
 
-pub returns-then-d-eq7 : goal.returns-then-d-eq7
-returns-then-d-eq7 c =
-    mid_bad c.begin-d.ensures.mid (omega (arith, c.if-d-trace.false, c.begin-d.ensures.mid.inside)) (c.begin-d.ensures.turned c.if-d-eq7.true)
+pub returns-then-d : goal.returns-then-d
+returns-then-d c =
+    mid_bad c.begin-d.ensures.mid (omega (arith, c.if-p-trace.false, c.begin-d.ensures.mid.inside)) (c.begin-d.ensures.turned c.if-d.true)
 
-pub slice_bounds-take_turn-count-in-loop-used : goal.slice_bounds-take_turn-count-in-loop-used
-slice_bounds-take_turn-count-in-loop-used c = front_held (c.loop-used.invariant _ _ c.begin-d.ensures.mid).front
+pub slice_bounds-take_turn-count-in-loop-p : goal.slice_bounds-take_turn-count-in-loop-p
+slice_bounds-take_turn-count-in-loop-p c = front_held (c.loop-p.invariant _ _ c.begin-d.ensures.mid).0.front
 
-pub slice_bounds-take_turn-start-in-loop-used : goal.slice_bounds-take_turn-start-in-loop-used
-slice_bounds-take_turn-start-in-loop-used c = front_held (c.loop-used.invariant _ _ c.begin-d.ensures.mid).front
+pub slice_bounds-take_turn-start-in-loop-p : goal.slice_bounds-take_turn-start-in-loop-p
+slice_bounds-take_turn-start-in-loop-p c = front_held (c.loop-p.invariant _ _ c.begin-d.ensures.mid).0.front
 
 -- a turn that goes on, in plain variables
-further : {s now later : State} {t x₀ x ys : List ℕ} {n u w k j : ℕ} {r : Turn} → Mid s t x₀ x now n u w → u < length t → Turned now (from u t) (from w x) ys r → r ≡ Went later k j
-    → Mid s t x₀ (back w x ys) later (n + 1) (u + k) (w + j) × (shortest_record ≤ k)
+further : {s now : State} {t x₀ x ys : List ℕ} {n u w : ℕ} {r : Turn} {g : Went} → Mid s t x₀ x now n u w → u < length t → Turned now (from u t) (from w x) ys r → r ≡ Ok g
+    → Mid s t x₀ (back w x ys) g.state (n + 1) (u + g.used) (w + g.written) × (shortest_record ≤ g.used)
 further m left turned is = (mid_step m left turned is, turn_long m left turned is)
 
-pub overflow_add-records : goal.overflow_add-records
-overflow_add-records c =
-    let m = (further (c.loop-used.invariant _ _ c.begin-d.ensures.mid) c.loop-used-test.true c.take_turn.ensures c.in-Went.is).0 in
+pub overflow_add-p : goal.overflow_add-p
+overflow_add-p c =
+    let m = (further (c.loop-p.invariant _ _ c.begin-d.ensures.mid).0 c.loop-p-test.true c.take_turn.ensures c.in-Ok.is).0 in
     omega (arith, m.few, m.inside, c.well_formed)
 
-pub overflow_add-used : goal.overflow_add-used
-overflow_add-used c =
-    let m = (further (c.loop-used.invariant _ _ c.begin-d.ensures.mid) c.loop-used-test.true c.take_turn.ensures c.in-Went.is).0 in
+pub overflow_add-p-in-Ok : goal.overflow_add-p-in-Ok
+overflow_add-p-in-Ok c =
+    let m = (further (c.loop-p.invariant _ _ c.begin-d.ensures.mid).0 c.loop-p-test.true c.take_turn.ensures c.in-Ok.is).0 in
     omega (arith, m.inside, c.well_formed)
 
-pub overflow_add-written : goal.overflow_add-written
-overflow_add-written c =
-    let m = (further (c.loop-used.invariant _ _ c.begin-d.ensures.mid) c.loop-used-test.true c.take_turn.ensures c.in-Went.is).0 in
+pub overflow_add-p-in-Ok-2 : goal.overflow_add-p-in-Ok-2
+overflow_add-p-in-Ok-2 c =
+    let m = (further (c.loop-p.invariant _ _ c.begin-d.ensures.mid).0 c.loop-p-test.true c.take_turn.ensures c.in-Ok.is).0 in
     omega (arith, front_held m.front, front_length m.front, c.well_formed)
 
-pub loop-used-smaller : goal.loop-used-smaller
-loop-used-smaller c =
-    let f = further (c.loop-used.invariant _ _ c.begin-d.ensures.mid) c.loop-used-test.true c.take_turn.ensures c.in-Went.is in
+pub loop-p-smaller : goal.loop-p-smaller
+loop-p-smaller c =
+    let f = further (c.loop-p.invariant _ _ c.begin-d.ensures.mid).0 c.loop-p-test.true c.take_turn.ensures c.in-Ok.is in
     omega (arith, f.0.inside, f.1)
 
-pub loop-used-preserved : goal.loop-used-preserved
-loop-used-preserved c = λ s x₀ m. mid_step (c.loop-used.invariant s x₀ m) c.loop-used-test.true c.take_turn.ensures c.in-Went.is
+pub loop-p-preserved : goal.loop-p-preserved
+loop-p-preserved c = λ s x₀ m. (mid_step (c.loop-p.invariant s x₀ m).0 c.loop-p-test.true c.take_turn.ensures c.in-Ok.is, (c.loop-p.invariant s x₀ m).1)
 
-pub returns-in-Stopped : goal.returns-in-Stopped
-returns-in-Stopped c = mid_stop (c.loop-used.invariant _ _ c.begin-d.ensures.mid) c.loop-used-test.true c.take_turn.ensures c.in-Stopped.is
+pub returns-in-Err : goal.returns-in-Err
+returns-in-Err c = mid_stop (c.loop-p.invariant _ _ c.begin-d.ensures.mid).0 c.loop-p-test.true c.take_turn.ensures c.in-Err.is
 
 pub returns : goal.returns
-returns c = mid_end (c.loop-used.invariant _ _ c.begin-d.ensures.mid) c.loop-used-test.false
+returns c =
+    let h = c.loop-p.invariant _ _ c.begin-d.ensures.mid in
+    rw h.1 (mid_end h.0 c.loop-p-test.false)

@@ -25,19 +25,19 @@ overflow_add-result c =
     let m = further c.args.first.now c.args.second.now c.loop-used.invariant c.loop-used-test.true c.window-w.ensures c.play-p.ensures in
     omega (arith, m.few, m.inside, length-append c.args.first.now c.args.second.now, c.well_formed)
 
-pub overflow_add-result-then-p : goal.overflow_add-result-then-p
-overflow_add-result-then-p c =
+pub overflow_add-result-then-is_full-p : goal.overflow_add-result-then-is_full-p
+overflow_add-result-then-is_full-p c =
     let m = further c.args.first.now c.args.second.now c.loop-used.invariant c.loop-used-test.true c.window-w.ensures c.play-p.ensures in
     omega (arith, m.inside, length-append c.args.first.now c.args.second.now, c.well_formed)
 
-pub returns-then-p : goal.returns-then-p
-returns-then-p c =
+pub returns-then-is_full-p : goal.returns-then-is_full-p
+returns-then-is_full-p c =
     let u = c.loop-used.used in
     let one = c.args.first.now in
     let two = c.args.second.now in
     midway_stop c.loop-used.invariant (seen_is one two u (omega (arith, c.loop-used-test.true)) c.window-w.ensures) c.play-p.ensures
     (omega (arith, c.loop-used-test.true, length-drop u (one ++ two), length-append one two))
-    (either _ _ c.if-p.true)
+    (either _ _ (rw (c.is_full.ensures) at c.if-is_full-p.true))
 
 pub overflow_add-records : goal.overflow_add-records
 overflow_add-records c =
@@ -55,7 +55,7 @@ loop-used-preserved c = further c.args.first.now c.args.second.now c.loop-used.i
 -- the last play, in plain variables
 over : {s now : State} (first second : List ℕ) {x₀ x ys : List ℕ} {n u w : ℕ} {p : Played} → Midway s (first ++ second) x₀ x now n u w → length first ≤ u
     → Ran now (from (u - length first) second) (from w x) ys p
-    → Ran s (first ++ second) x₀ (back w x ys) (record { code = p.code; records = n + p.records; used = u + p.used; written = w + p.written; state = p.state })
+    → Ran s (first ++ second) x₀ (back w x ys) (record { stop = p.stop; records = n + p.records; used = u + p.used; written = w + p.written; state = p.state })
 over {now} first second {x₀} {u} {w} m past ran = midway_last m ran (ap (λ (l : List ℕ). run_of now l (length x₀ - w)) (behind first second u past))
 
 pub overflow_add-result-2 : goal.overflow_add-result-2

@@ -1,47 +1,33 @@
 -- `session::portion::feed`: the laws of a portion, at what its calls ensure. Assumes nothing.
-use mathlib.Core.Path.{refl, sym, ◌∙◌}
+use mathlib.Core.Path.{refl, sym, ap, ◌∙◌}
+use Rattle.session_rules.specs.Portion.{fed_code}
+use Rattle.session_rules.proofs.Codes.{play_code, refusal_code}
 use Rattle.session_rules.proofs.Feeds as feeds
 use Rattle.session.proofs.portion.feed.Goals as goal
 
-pub returns-then-code-ne0 : goal.returns-then-code-ne0
-returns-then-code-ne0 c = feeds.fed_refused _ _ _ _ c.refused_with-code.ensures c.if-code-ne0.true
+pub returns-in-Some : goal.returns-in-Some
+returns-in-Some c = feeds.fed_refused _ _ _ _ _ (ap fed_code c.refused_with.ensures ∙ refusal_code _ _) c.in-Some.is
 
-pub slice_bounds-carried-end : goal.slice_bounds-carried-end
-slice_bounds-carried-end c =
-    feeds.carried_fits_lem c.args.s c.args.portion.now c.args.end c.args.out.now (sym c.if-code-ne0.false ∙ c.refused_with-code.ensures)
+pub shared_ref_as_front-carried : goal.shared_ref_as_front-carried
+shared_ref_as_front-carried c =
+    (feeds.s_held c.args.s c.args.portion.now c.args.end c.args.out.now (ap fed_code (sym c.in_default.is ∙ c.refused_with.ensures) ∙ refusal_code _ _)).few
 
-pub slice_bounds-play_joined-end : goal.slice_bounds-play_joined-end
-slice_bounds-play_joined-end c =
-    feeds.carried_count c.args.s c.args.portion.now c.args.end c.args.out.now (sym c.if-code-ne0.false ∙ c.refused_with-code.ensures)
-
-pub slice_bounds-carried-end-2 : goal.slice_bounds-carried-end-2
-slice_bounds-carried-end-2 c =
-    feeds.carried_fits_lem c.args.s c.args.portion.now c.args.end c.args.out.now (sym c.if-code-ne0.false ∙ c.refused_with-code.ensures)
-
-pub slice_bounds-window_at-end : goal.slice_bounds-window_at-end
-slice_bounds-window_at-end c =
-    feeds.carried_count c.args.s c.args.portion.now c.args.end c.args.out.now (sym c.if-code-ne0.false ∙ c.refused_with-code.ensures)
-
-pub moved-session-requires : goal.moved-session-requires
-moved-session-requires c =
-    let z = feeds.sums c.args.s c.args.portion.now c.args.end c.args.out.now (sym c.if-code-ne0.false ∙ c.refused_with-code.ensures) c.play_joined-p.ensures in
+pub moved-requires : goal.moved-requires
+moved-requires c =
+    let z = feeds.sums c.args.s c.args.portion.now c.args.end c.args.out.now (ap fed_code (sym c.in_default.is ∙ c.refused_with.ensures) ∙ refusal_code _ _) c.play_joined-p.ensures in
     record { records_bound = z.0; used_bound = z.1; written_bound = z.2 }
 
-pub returns-then-waiting-p : goal.returns-then-waiting-p
-returns-then-waiting-p c =
-    feeds.fed_all c.args.s c.args.portion.now c.args.end c.args.out.now (sym c.if-code-ne0.false ∙ c.refused_with-code.ensures) c.play_joined-p.ensures c.window_at-w.ensures c.is_part.ensures
-    c.if-waiting-p.true c.end_code.ensures c.moved-session.ensures
+pub returns-then-waiting-is_end : goal.returns-then-waiting-is_end
+returns-then-waiting-is_end c =
+    feeds.fed_all c.args.s c.args.portion.now c.args.end c.args.out.now (ap fed_code (sym c.in_default.is ∙ c.refused_with.ensures) ∙ refusal_code _ _) c.play_joined-p.ensures c.window_at-w.ensures c.is_part.ensures
+    (rw (c.is_unread.ensures, c.is_end.ensures) at c.if-waiting-is_end.true) (rw (c.is_unread.ensures) at c.stop_if.ensures) (rw (c.is_unread.ensures) at c.moved.ensures)
 
-pub slice_bounds-moved-end-2 : goal.slice_bounds-moved-end-2
-slice_bounds-moved-end-2 c =
-    feeds.carried_fits_lem c.args.s c.args.portion.now c.args.end c.args.out.now (sym c.if-code-ne0.false ∙ c.refused_with-code.ensures)
-
-pub moved-session-requires-2 : goal.moved-session-requires-2
-moved-session-requires-2 c =
-    let z = feeds.sums c.args.s c.args.portion.now c.args.end c.args.out.now (sym c.if-code-ne0.false ∙ c.refused_with-code.ensures) c.play_joined-p.ensures in
+pub moved-requires-2 : goal.moved-requires-2
+moved-requires-2 c =
+    let z = feeds.sums c.args.s c.args.portion.now c.args.end c.args.out.now (ap fed_code (sym c.in_default.is ∙ c.refused_with.ensures) ∙ refusal_code _ _) c.play_joined-p.ensures in
     record { records_bound = z.0; used_bound = z.1; written_bound = z.2 }
 
 pub returns : goal.returns
 returns c =
-    feeds.fed_stop c.args.s c.args.portion.now c.args.end c.args.out.now (sym c.if-code-ne0.false ∙ c.refused_with-code.ensures) c.play_joined-p.ensures c.window_at-w.ensures c.is_part.ensures
-    c.if-waiting-p.false c.least-m.ensures refl c.moved-session-2.ensures
+    feeds.fed_stop c.args.s c.args.portion.now c.args.end c.args.out.now (ap fed_code (sym c.in_default.is ∙ c.refused_with.ensures) ∙ refusal_code _ _) c.play_joined-p.ensures c.window_at-w.ensures c.is_part.ensures
+    (rw (c.is_unread.ensures, c.is_end.ensures) at c.if-waiting-is_end.false) c.min-m.ensures refl (rw (c.is_unread-2.ensures) at c.moved-2.ensures) (ap fed_code c.for_portion.ensures ∙ play_code _)

@@ -10,5 +10,5 @@ pub returns : goal.returns
 returns c =
     let s = c.args in
     c.window-2.ensures
-    ∙ rw (rest (length s.a.now) s.a.now, rest c.least-k.result s.b.now)
-    (ap window_of (from_second s.at _ s.a.now s.b.now c.if-at-a.false c.least-k.ensures))
+    ∙ rw (rest (length s.a.now) s.a.now, rest c.min-k.result s.b.now)
+    (ap window_of (from_second s.at _ s.a.now s.b.now c.if-at-a.false c.min-k.ensures))

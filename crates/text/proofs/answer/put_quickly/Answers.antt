@@ -14,14 +14,14 @@ parts code reply alert therm = simp append_assoc
 pub put_decimal-requires : goal.put_decimal-requires
 put_decimal-requires c =
     let h = c.put_head-n.ensures in
-    front_room h.front (omega (arith, few_digits c.args.reply, c.requires.in_bounds, h.value))
+    front_room h.front (omega (arith, few_digits c.args.a.reply, c.requires.in_bounds, h.value))
 
 pub put_tail-requires : goal.put_tail-requires
 put_tail-requires c =
     let h = c.put_head-n.ensures in
     let d = c.put_decimal.ensures in
-    front_room (front_then h.front d) (omega (arith, few_digits c.args.reply, c.requires.in_bounds, h.value, d.count))
+    front_room (front_then h.front d) (omega (arith, few_digits c.args.a.reply, c.requires.in_bounds, h.value, d.count))
 
 pub returns : goal.returns
 returns c =
-    rw (parts c.args.code c.args.reply c.args.alert c.args.therm) (front_then (front_then c.put_head-n.ensures.front c.put_decimal.ensures) c.put_tail.ensures)
+    rw (parts c.args.a.code c.args.a.reply c.args.a.alert c.args.a.therm) (front_then (front_then c.put_head-n.ensures.front c.put_decimal.ensures) c.put_tail.ensures)

@@ -1,35 +1,32 @@
--- What is left of a name, or of a part, whose bytes are all the same.
-use Rattle.std.proofs.Common.{◌≡◌, ℕ, ◌≤◌, ◌<◌, Bool, true, cond, List, length, drop, sym, ◌∙◌, arith, drop-cons}
-use lib.ListN.{drop_of_length-le}
+-- Byte by byte, the name is a beginning of the part, or the part one of the name, as `fit_of` says.
+use Rattle.std.proofs.Common.{◌≡◌, ℕ, Bool, true, false, cond, eqb, List, [], ◌∷◌, refl, sym, ◌∙◌, eq-eqb}
+use Rattle.std.specs.List.{starts_with}
+use borrow.Author.Tests.{eqb-true, eqb-false, ne_eqb}
 use Rattle.text_rules.specs.declared.line.Fit.{Fit}
 use Rattle.text_rules.specs.declared.line.Fit.TheVariants.{Yes, Begun, No}
 use Rattle.text_rules.specs.Line.{fit_of}
 use Rattle.text.proofs.line.fit_name.Goals as goal
 
--- all bytes are the same
-all : (r : Bool) (g : Fit) {f : Fit} → f ≡ cond r g No → r ≡ true → f ≡ g
-all r g e h = rw h at e
+abbrev by_front : List ℕ → List ℕ → Fit
+by_front xs ys = cond (starts_with eqb ys xs) Yes (cond (starts_with eqb xs ys) Begun No)
 
-module _ (xs ys : List ℕ) where
-  abbrev left : ℕ → Fit
-  left n = fit_of (drop n xs) (drop n ys)
+fits : (xs ys : List ℕ) → by_front xs ys ≡ fit_of xs ys
+unfolding fit_of
+fits [] ys = refl
+fits (x ∷ xs) [] = refl
+fits (x ∷ xs) (y ∷ ys) = by (eqb x y) refl (fits xs ys)
+  where
+    by : (t : Bool) → eqb x y ≡ t → by_front xs ys ≡ fit_of xs ys → by_front (x ∷ xs) (y ∷ ys) ≡ cond t (fit_of xs ys) No
+    by true e ih = let f : eqb y x ≡ true = eq-eqb y x (sym (eqb-true x y e)) in rw (e, f) ih
+    by false e ih = let f : eqb y x ≡ false = ne_eqb y x (λ z. eqb-false x y e (sym z)) in rw (e, f)
 
-  whole : left (length xs) ≡ Yes
-  unfolding fit_of
-  whole = let h : length xs ≤ length xs = omega arith in rw (drop_of_length-le xs h)
+pub returns-then-starts_with : goal.returns-then-starts_with
+returns-then-starts_with c = rw (sym c.starts_with.ensures.value ∙ c.if-starts_with.true) at (fits c.args.name.now c.args.s.now)
 
-  begun : length ys < length xs → left (length ys) ≡ Begun
-  unfolding fit_of
-  begun p = let h : length ys ≤ length ys = omega arith in rw (drop-cons xs (length ys) 0 p, drop_of_length-le ys h)
+pub returns-then-starts_with-2 : goal.returns-then-starts_with-2
+returns-then-starts_with-2 c =
+    rw (sym c.starts_with.ensures.value ∙ c.if-starts_with.false, sym c.starts_with-else-starts_with.ensures.value ∙ c.if-starts_with-2.true) at (fits c.args.name.now c.args.s.now)
 
-pub returns-then-same : goal.returns-then-same
-returns-then-same c =
-    let xs = c.args.name.now in
-    let ys = c.args.s.now in
-    sym (all c.same.result (left xs ys (length xs)) c.same.ensures c.if-same.true ∙ whole xs ys)
-
-pub returns-then-same-2 : goal.returns-then-same-2
-returns-then-same-2 c =
-    let xs = c.args.name.now in
-    let ys = c.args.s.now in
-    sym (all c.same-else-name-s.result (left xs ys (length ys)) c.same-else-name-s.ensures c.if-same-2.true ∙ begun xs ys c.if-name-s.false)
+pub returns-else-starts_with-2 : goal.returns-else-starts_with-2
+returns-else-starts_with-2 c =
+    rw (sym c.starts_with.ensures.value ∙ c.if-starts_with.false, sym c.starts_with-else-starts_with.ensures.value ∙ c.if-starts_with-2.false) at (fits c.args.name.now c.args.s.now)

@@ -1,8 +1,8 @@
--- "kin" stands in front, and each turn reads one line more as the definition reads it.
-use Rattle.std.proofs.Common.{ℕ, to_z, w32, ◌+◌, ◌-◌, ◌*◌, ◌<◌, ◌≡◌, get_or, refl, sym, ◌∙◌, arith}
-use Rattle.text_rules.proofs.Lines.{read_between}
-use Rattle.text_rules.proofs.Signed.{kept}
-use Rattle.text.proofs.QuickLines.{begins, lined_more}
+-- "kin" stands in front, and each line is read from where the one before it ended.
+use Rattle.std.proofs.Common.{ℕ, ◌+◌, ◌*◌, ◌<◌, ◌≡◌, [], ◌∷◌, get_or, sym, ◌∙◌, arith}
+use Rattle.text_rules.specs.Names.{a_name, b_name, c_name}
+use Rattle.text_rules.specs.Record.{record_of}
+use Rattle.text.proofs.Read.{here, kind_line}
 use Rattle.text.proofs.quick.read_lines.Goals as goal
 
 -- four bytes side by side are those of the name
@@ -10,29 +10,15 @@ bytes : (a b c d : ℕ) → a < 256 → b < 256 → c < 256 → d < 256 → a + 
     → (a ≡ 107) × (b ≡ 105) × (c ≡ 110)
 bytes a b c d p q r s e = (omega arith, omega arith, omega arith)
 
-pub loop-i-init : goal.loop-i-init
-loop-i-init c =
+pub returns : goal.returns
+unfolding record_of
+returns c =
     let s = c.args.s.now in
     let g = c.type_inv.s in
-    let b = bytes (get_or s 0 0) (get_or s 1 0) (get_or s 2 0) (get_or s 3 0) (omega (arith, g 0)) (omega (arith, g 1)) (omega (arith, g 2)) (omega (arith, g 3)) (sym c.word.ensures ∙ c.if-word.false ∙ c.word-2.ensures) in
-    (omega arith, omega arith, (begins s (omega (arith, c.requires)) b.0 b.1 b.2, refl))
-
-pub loop-i-preserved : goal.loop-i-preserved
-loop-i-preserved c =
-    let s = c.args.s.now in
-    let l = c.loop-i in
-    let r = c.line_at-l in
-    let n = r.result.end - 1 in
-    let some : r.result.end ≡ r.result.end - 1 + 1 = omega (arith, c.if-l-eq0.false) in
-    let f = r.ensures n some in
-    let end : l.p + (n + 1 - l.p) ≡ r.result.end = omega arith in
-    let line = rw c.letter_of.ensures at f.1 in
-    let more = lined_more s l.i l.p (to_z w32 l.kind-bits) (to_z w32 l.a-bits) (to_z w32 l.b-bits) (to_z w32 l.c-bits) c.loop-i-test.true l.invariant.2 line in
-    let small = (read_between _ _ line).2 in
-    (omega arith, omega arith, rw (kept r.result.value small, ← end) more)
-
-pub returns : goal.returns
-returns c q n e =
-    let l = c.loop-i in
-    let four : l.i ≡ 4 = omega (arith, c.loop-i-test.false) in
-    rw four at l.invariant.2 ∙ e
+    let b = bytes (get_or s 0 0) (get_or s 1 0) (get_or s 2 0) (get_or s 3 0) (omega (arith, g 0)) (omega (arith, g 1)) (omega (arith, g 2)) (omega (arith, g 3)) (sym c.from_le_bytes.ensures ∙ c.if-from_le_bytes.false ∙ c.from_le_bytes-2.ensures) in
+    let v = here (100 ∷ 61 ∷ []) s 3 (omega arith) c.in_ok-kind.ensures.0 in
+    let x = kind_line s (omega arith) b.0 b.1 b.2 v.is in
+    let y = here a_name s (3 + c.in_ok-kind.n) v.room c.in_ok-a.ensures.0 in
+    let z = here b_name s (3 + c.in_ok-kind.n + c.in_ok-a.m) y.room c.in_ok-b.ensures.0 in
+    let w = here c_name s (3 + c.in_ok-kind.n + c.in_ok-a.m + c.in_ok-b.m) z.room c.in_ok-c.ensures.0 in
+    rw (x, y.is, z.is, w.is, v.same, y.same, z.same, w.same)

@@ -1,0 +1,2 @@
+-- What is shown of blocks.
+pub mod Parts

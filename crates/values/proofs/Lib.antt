@@ -1,2 +1,0 @@
--- What the crate's proofs share.
-pub mod Laws
