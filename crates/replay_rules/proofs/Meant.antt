@@ -7,12 +7,12 @@ use mathlib.Core.List.{List, [], ◌∷◌}
 use lib.ListN.{length, drop}
 use lib.Dec.{eqb}
 use mathlib.Core.Bool.{Bool, true, false, cond}
-use borrow.Author.Tests.{le-leb, lt-leb, ne_eqb}
+use borrow.Author.Tests.{eq-eqb, le-leb, lt-leb, ne_eqb}
 use Rattle.rules.specs.declared.state.State.{State}
 use Rattle.replay_rules.specs.declared.play.Stop.{Stop}
-use Rattle.replay_rules.specs.Meant.{NumbersMean, PromisesMet, ReportsMean, RoomMeans, RunsBegin, TurnsMean, WordsMean}
+use Rattle.replay_rules.specs.Meant.{AnyCodeRefused, NumbersMean, OverMeans, PromisesMet, ReportsMean, RoomMeans, RunsBegin, ShownMeans, TurnsMean, WordsMean}
 use Rattle.replay_rules.specs.Play.{Run, Turn, added_of, begun, end_code, ended, on_turn, run_from, run_of, stop_code, turn_of, went}
-use Rattle.replay_rules.specs.Replay.{report_of}
+use Rattle.replay_rules.specs.Replay.{replay_from, report_of}
 use Rattle.replay_rules.proofs.Words.{word_back}
 
 pub turns_mean : TurnsMean
@@ -49,6 +49,17 @@ reports_mean p =
 
 pub room_means : RoomMeans
 room_means full over h = omega (arith, h)
+
+pub any_code_refused : AnyCodeRefused
+unfolding replay_from
+any_code_refused code s trace output report n = rw (ne_eqb code 0 n)
+
+pub over_means : OverMeans
+over_means size bytes before =
+    record { fits = λ e. rw (eq-eqb (length before) size e); other = λ n. rw (ne_eqb (length before) size n) }
+
+pub shown_means : ShownMeans
+shown_means = (λ code reply alert therm. refl, λ a. refl)
 
 pub numbers_mean : NumbersMean
 numbers_mean =

@@ -1,24 +1,27 @@
 -- What a turn, a run's first turn, a report's numbers and the promises mean, in other words: an error made in their definitions and in the
 -- code alike is refused here. The proofs are in proofs/Meant.antt. Assumes nothing.
+use Rattle.std.specs.Prelude.{Bool}
+use Rattle.rules.specs.Codes.{number_of}
+use Rattle.rules.specs.declared.answer.Answer.{Answer}
 use Rattle.std.specs.Prelude.{ℕ, ◌+◌, ◌*◌, ◌<◌, ◌≤◌, ◌≡◌, List, [], ◌∷◌, ◌++◌, drop, length, Option, Some, None, Ok, Err}
 use Rattle.std.proofs.Math.IntN.ℤ.{pos}
 use Rattle.rules.specs.declared.state.State.{State}
 use Rattle.rules.specs.Step.{step_of}
 use Rattle.text_rules.specs.declared.record.Unread.TheVariants.{Part, Malformed}
 use Rattle.text_rules.specs.declared.record.Record.{Record}
-use Rattle.text_rules.specs.Answer.{wrote_code}
+use Rattle.text_rules.specs.Answer.{answer_text, shown_text, wrote_code}
 use Rattle.text_rules.specs.Record.{parsed_code, record_of}
 use Rattle.replay_rules.specs.declared.play.Stop.{Stop}
 use Rattle.replay_rules.specs.declared.play.Stop.TheVariants.{Record as NoRecord, Room}
-use Rattle.replay_rules.specs.Play.{Ran, Run, Turned, added_of, end_code, going, numbers_of, run_of, stop_code, text_of, turn_code, turn_of}
-use Rattle.blocks.specs.Blocks.{word, word_at}
-use Rattle.replay_rules.specs.Replay.{Replayed, Result, report_of}
+use Rattle.replay_rules.specs.Play.{Ran, Run, Turned, added_of, end_code, going, numbers_of, run_of, shown_of, stop_code, text_of, turn_code, turn_of}
+use Rattle.blocks.specs.Blocks.{over, word, word_at}
+use Rattle.replay_rules.specs.Replay.{Replayed, Result, replay_from, report_of}
 use Rattle.replay_rules.specs.Room.{room_of}
 
 -- a record whose answer fits is answered, whatever its code; one whose answer does not is code 8; no record is code 7, whatever the room
 pub record Turning (s : State) (rest : List ℕ) (room : ℕ) : Type 0 where
   pub on : (r : Record) (n : ℕ) → record_of rest ≡ Ok (r, n) → length (text_of (step_of s (numbers_of r))) ≤ room
-      → turn_of s rest room ≡ going (step_of s (numbers_of r)).state n (length (text_of (step_of s (numbers_of r))))
+      → turn_of s rest room ≡ Ok (record { state = (step_of s (numbers_of r)).state; used = n; written = length (text_of (step_of s (numbers_of r))) })
   pub full : (r : Record) (n : ℕ) → record_of rest ≡ Ok (r, n) → room < length (text_of (step_of s (numbers_of r))) → turn_of s rest room ≡ Err Room
   pub part : record_of rest ≡ Err Part → turn_of s rest room ≡ Err NoRecord
   pub bad : record_of rest ≡ Err Malformed → turn_of s rest room ≡ Err NoRecord
@@ -56,6 +59,25 @@ ReportsMean = (p : Run) → Reports p
 -- 33 bytes of room for each full 19 of trace, whatever is left over
 abbrev pub RoomMeans : Type 0
 RoomMeans = (full over : ℕ) → over < 19 → room_of (19 * full + over) ≡ 33 * full
+
+-- "A bad address .. is code 2 and writes nothing": of any code of making a state but 0
+abbrev pub AnyCodeRefused : Type 0
+AnyCodeRefused =
+    (code : ℕ) (s : State) (trace output report : List ℕ) → (code ≡ 0 → ⊥) → replay_from code s trace output report ≡ record { code = 2; output = output; report = report }
+
+-- a buffer that is lent is written whole where it has the length that is wanted; any other is left as it was
+pub record Lent (size : ℕ) (bytes before : List ℕ) : Type 0 where
+  pub fits : length before ≡ size → over size bytes before ≡ bytes
+  pub other : (length before ≡ size → ⊥) → over size bytes before ≡ before
+
+abbrev pub OverMeans : Type 0
+OverMeans = (size : ℕ) (bytes before : List ℕ) → Lent size bytes before
+
+-- what the text shows of an answer, each under its own name
+abbrev pub ShownMeans : Type 0
+ShownMeans =
+    ((code reply : ℕ) (alert therm : Bool) → shown_text (record { code = code; reply = reply; alert = alert; therm = therm }) ≡ answer_text code reply alert therm)
+    × ((a : Answer) → shown_of a ≡ record { code = number_of a.code; reply = a.reply; alert = a.alert; therm = a.therm })
 
 -- document 01's numbers of the answers that are enums
 pub record Numbers : Type 0 where

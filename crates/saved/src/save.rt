@@ -72,11 +72,9 @@ pub fn same(a: &[u8], b: &[u8]) -> bool
     if a.len() != b.len() {
         return false;
     }
-    let mut i = 0;
     let mut all = true;
-    while i < a.len() {
-        all = all & (a[i] == b[i]);
-        i = i + 1;
+    for i in 0..a.len() {
+        all &= a[i] == b[i];
     }
     all
 }
