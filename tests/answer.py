@@ -417,7 +417,8 @@ def at_terminal(words, slowed=False, both=False, **more):
     os.set_blocking(ours, False)
     said = b""
     with tempfile.TemporaryFile() as wrote:
-        program = subprocess.Popen(words, stdout=theirs if both else wrote, **{"stdin": subprocess.DEVNULL, "stderr": theirs} | more)
+        # one that is slowed also gives way to this test, so that it does not run on while a busy machine lets the test wait
+        program = subprocess.Popen(["nice", "-n", "19", *words] if slowed else words, stdout=theirs if both else wrote, **{"stdin": subprocess.DEVNULL, "stderr": theirs} | more)
         os.close(theirs)
         over = False
         while not over:
