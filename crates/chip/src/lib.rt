@@ -54,7 +54,7 @@ pub fn refuse_state(s: State) -> Answer
     answer::refused(Code::IllFormed, s)
 }
 
-// Document 01's number for a code, as the trace's text and C have it.
+// Document 01's number for a code, as the trace's text and C have it: a cast, whose clause says which number. A From would hold the same.
 pub fn code_number(code: Code) -> u8
     ensures value { result ≡ number_of code }
     ensures upper_bound { result ≤ 6 }

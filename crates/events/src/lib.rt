@@ -23,7 +23,7 @@ fn fields(e: Numbers, a: i32, b: i32, c: i32) -> bool
     within(0, a, e.a) & within(0, b, e.b) & within(0, c, e.c)
 }
 
-// A number that is no byte becomes 0, and the fields' test refuses its event.
+// One line each for a byte and for a sample: the name says which. A number that is no byte becomes 0, and the fields' test refuses its event.
 fn byte(x: i32) -> u8
     ensures { result ≡ byte_of x }
 {

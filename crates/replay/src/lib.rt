@@ -14,7 +14,7 @@ use replay_rules::play::{LONGEST_TRACE, Stop};
 use report::write_report;
 use rules::state::State;
 
-// A code of making a state other than 0, or a length that is refused.
+// A code of making a state, any number, other than 0, or a length that is refused.
 fn is_refused(code: u8, trace: usize, output: usize, report: usize) -> bool
     ensures { result ≡ (not (eqb code 0) || ltb 16777216 trace || ltb 16777216 output || not (eqb report 16)) }
 {
@@ -29,7 +29,7 @@ fn refused(report: &mut [u8]) -> i32
     2
 }
 
-// Document 01's number for what ended a replay, as its report has it.
+// Document 01's number for what ended a replay, as its report has it. A portion's stops are a type of their own, in a layer above.
 pub fn end_number(stop: Option<Stop>) -> u8
     ensures { result ≡ end_code stop }
 {

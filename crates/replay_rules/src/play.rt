@@ -1,6 +1,6 @@
 use rules::state::State;
 
-// What stops a replay. The numbers are document 01's codes.
+// What stops a replay. The numbers are document 01's codes. A portion has more of them, which no replay gives.
 #[derive(Clone, Copy, PartialEq, Eq)]
 pub enum Stop {
     Record = 7,

@@ -102,7 +102,7 @@ pub fn holds(s: State, b: &[u8]) -> bool
     same(&saved(s), b)
 }
 
-// A state into 128 bytes; any other length is left as it is.
+// A state into 128 bytes; any other length is left as it is. A session has its own line, over its own bytes.
 pub fn save(s: State, out: &mut [u8])
     ensures { out.new ≡ saved_over (save_of s) out.old }
 {

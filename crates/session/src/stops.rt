@@ -26,6 +26,7 @@ pub(crate) fn is_end(stop: Option<PlayStop>) -> bool
     stop.is_none()
 }
 
+// By cases, as a From would be.
 pub(crate) fn for_portion(stop: Option<PlayStop>) -> Option<Stop>
     ensures { result ≡ stop_for stop }
 {

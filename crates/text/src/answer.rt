@@ -32,6 +32,7 @@ fn count_digits(n: u8) -> usize
     }
 }
 
+// By hand, as its line is and as digits are read: the library's printing knows no bound of three digits, and asks for its room at each write.
 #[tactic(auto, unfolding(text_rules::specs::Answer::decimal_of))]
 fn put_decimal(out: &mut [u8], n: u8) -> usize
     requires { length (decimal_of n) ≤ length out.old }
@@ -56,7 +57,7 @@ fn put_line(out: &mut [u8], name: &[u8], n: u8) -> usize
     i + put_text(&mut out[i..], b"\n")
 }
 
-// It does not depend on the levels, which are one digit each.
+// It does not depend on the levels, which are one digit each; the code is any number, as in `Shown`.
 #[tactic(auto, using(text_rules::proofs::Size::answer_length, text_rules::proofs::Size::few_digits))]
 fn answer_size(code: u8, reply: u8) -> usize
     ensures { (alert therm : Bool) → result ≡ length (answer_text code reply alert therm) }
