@@ -269,8 +269,8 @@ def sentences():
 
 # ---- claims and tables that could be emptied
 
-# Types of the specs that are no claims.
-TYPES = {"History", "Checked", "Line", "Parsed", "Turn"}
+# Types of the specs that are no claims, each by its crate and file: a claim of such a name elsewhere wants its proof.
+TYPES = {"rules History.History", "rules Event.Checked", "text_rules Number.Line", "text_rules Record.Parsed", "replay_rules Play.Turn"}
 
 
 def proves(proof, crate, stem, name):
@@ -283,7 +283,7 @@ def proves(proof, crate, stem, name):
 def unproved(crate, specs, proofs):
     """The claims of a crate's specs, texts by the name of their file, that no proof's file has by its type."""
     claims = [(stem, name) for stem, text in specs.items() for name in re.findall(r"^abbrev pub ([A-Z]\w*) : Type 0$", text, re.M)]
-    return [f"{stem}.{name}" for stem, name in claims if name not in TYPES and not any(proves(proof, crate, stem, name) for proof in proofs)]
+    return [f"{stem}.{name}" for stem, name in claims if f"{crate} {stem}.{name}" not in TYPES and not any(proves(proof, crate, stem, name) for proof in proofs)]
 
 
 def bench(text):
@@ -298,6 +298,7 @@ def claims():
     good = "use Rattle.c.specs.S.{A, B}\n\npub a : A\n"
     said = {"S": "abbrev pub A : Type 0\nabbrev pub B : Type 0\n"}
     check("a claim without its proof is found", differs(unproved("c", said, [good]), ["S.B"]))
+    check("a claim that is called as a type of another file is found", differs(unproved("c", {"Number": "abbrev pub Line : Type 0\n"}, [good]), ["Number.Line"]))
     for what, wrong in ("of another file", good.replace("specs.S.", "specs.T.")), ("renamed", good.replace("{A", "{B as A")), ("defined anew", good + "\nabbrev A : Type 0\nA = B\n"):
         check(f"a proof of a name that is {what} is found", differs(unproved("c", said, [wrong]), ["S.A", "S.B"]))
     found, seen = [], 0

@@ -12,13 +12,14 @@ use std::io::{self, Read, Write};
 
 fn put_answer<W: Write>(out: &mut W, a: Answer) -> io::Result<()> {
     let code = chip::code_number(a.code);
-    writeln!(
-        out,
-        "{code} {} {} {}",
-        a.reply,
-        u8::from(a.alert),
-        u8::from(a.therm)
-    )
+    // both lines in one piece: each piece of the text is a write of its own
+    let lines = match (a.alert, a.therm) {
+        (false, false) => " 0 0",
+        (false, true) => " 0 1",
+        (true, false) => " 1 0",
+        (true, true) => " 1 1",
+    };
+    writeln!(out, "{code} {}{lines}", a.reply)
 }
 
 // The digit at a place of the line; past its end, 0.

@@ -8,13 +8,13 @@ mod answer;
 mod event;
 mod task;
 
-ghost use Rattle.std.specs.Prelude.{◌≡◌, ◌≤◌};
+ghost use Rattle.std.specs.Prelude.{◌≡◌, ◌≤◌, Err};
 ghost use Rattle.rules.specs.declared.answer.Code.TheVariants.{IllFormed};
 ghost use Rattle.rules.specs.Codes.{number_of};
 ghost use Rattle.rules.specs.PowerOn.{made_of};
 ghost use Rattle.rules.specs.WellFormed.{well_formed};
 ghost use Rattle.rules.specs.Lines.{alert_low};
-ghost use Rattle.rules.specs.Event.{check_of};
+ghost use Rattle.rules.specs.Event.{check_of, checked_number};
 ghost use Rattle.rules.specs.Step.{checked_of, refused, step_of};
 
 use rules::answer::{Answer, Code, Made};
@@ -54,9 +54,11 @@ pub fn refuse_state(s: State) -> Answer
     answer::refused(Code::IllFormed, s)
 }
 
-// Document 01's number for a code, as the trace's text and C have it: a cast, whose clause says which number. A From would hold the same.
+// Document 01's number for a code, as the trace's text and C have it: a cast, whose clauses say which number, and that a check that gives the
+// code has it. A From would hold the same.
 pub fn code_number(code: Code) -> u8
     ensures value { result ≡ number_of code }
+    ensures checked { result ≡ checked_number (Err code) }
     ensures upper_bound { result ≤ 6 }
 {
     code as u8

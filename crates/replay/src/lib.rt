@@ -5,7 +5,10 @@
 pub mod play;
 pub mod report;
 
-ghost use Rattle.std.specs.Prelude.{◌||◌, not, ◌≡◌, eqb, ltb, pos};
+ghost use Rattle.std.specs.Prelude.{◌||◌, not, ◌≡◌, eqb, ltb, pos, Some, Err};
+ghost use Rattle.text_rules.specs.declared.record.Unread.{Unread};
+ghost use Rattle.text_rules.specs.Record.{parsed_code};
+ghost use Rattle.replay_rules.specs.declared.play.Stop.TheVariants.{Record as NoRecord};
 ghost use Rattle.replay_rules.specs.Play.{end_code};
 ghost use Rattle.replay_rules.specs.Replay.{Replayed, replay_from};
 
@@ -29,9 +32,11 @@ fn refused(report: &mut [u8]) -> i32
     2
 }
 
-// Document 01's number for what ended a replay, as its report has it. A portion's stops are a type of their own, in a layer above.
+// Document 01's number for what ended a replay, as its report has it; where no record stood, that of a part of one and of what is malformed
+// alike. A portion's stops are a type of their own, in a layer above.
 pub fn end_number(stop: Option<Stop>) -> u8
-    ensures { result ≡ end_code stop }
+    ensures value { result ≡ end_code stop }
+    ensures no_record { (e : Unread) → stop ≡ Some NoRecord → result ≡ parsed_code (Err e) }
 {
     match stop {
         Some(stop) => stop as u8,

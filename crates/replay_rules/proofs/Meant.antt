@@ -9,9 +9,12 @@ use lib.Dec.{eqb}
 use mathlib.Core.Bool.{Bool, true, false, cond}
 use borrow.Author.Tests.{eq-eqb, le-leb, lt-leb, ne_eqb}
 use Rattle.rules.specs.declared.state.State.{State}
+use Rattle.text_rules.specs.declared.record.Unread.{Unread}
+use Rattle.text_rules.specs.declared.record.Unread.TheVariants.{Part, Malformed}
+use Rattle.text_rules.specs.Record.{parsed_code}
 use Rattle.replay_rules.specs.declared.play.Stop.{Stop}
 use Rattle.replay_rules.specs.Meant.{AnyCodeRefused, NumbersMean, OverMeans, PromisesMet, ReportsMean, RoomMeans, RunsBegin, ShownMeans, TurnsMean, WordsMean}
-use Rattle.replay_rules.specs.Play.{Run, Turn, added_of, begun, end_code, ended, on_turn, run_from, run_of, stop_code, turn_of, went}
+use Rattle.replay_rules.specs.Play.{Run, Turn, added_of, begun, end_code, ended, on_turn, run_from, run_of, stop_code, turn_code, turn_from, turn_of, went}
 use Rattle.replay_rules.specs.Replay.{replay_from, report_of}
 use Rattle.replay_rules.proofs.Words.{word_back}
 
@@ -61,7 +64,13 @@ over_means size bytes before =
 pub shown_means : ShownMeans
 shown_means = (λ code reply alert therm. refl, λ a. refl)
 
+-- a record that is not read stops its turn with the number of what stands there
+not_read : (s : State) (room : ℕ) (e : Unread) → turn_code (turn_from s room (Err e)) ≡ parsed_code (Err e)
+not_read s room Part = refl
+not_read s room Malformed = refl
+
 pub numbers_mean : NumbersMean
+unfolding turn_of
 numbers_mean =
     record {
       whole = λ r n. refl;
@@ -71,6 +80,7 @@ numbers_mean =
       full = refl;
       went = λ s n k. refl;
       unread = refl;
+      lacking = λ s rest room e h. rw h (not_read s room e);
       stopped = refl;
       ended = refl;
       stop = λ stop. refl;

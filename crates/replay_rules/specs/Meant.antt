@@ -7,6 +7,7 @@ use Rattle.std.specs.Prelude.{ℕ, ◌+◌, ◌*◌, ◌<◌, ◌≤◌, ◌≡�
 use Rattle.std.proofs.Math.IntN.ℤ.{pos}
 use Rattle.rules.specs.declared.state.State.{State}
 use Rattle.rules.specs.Step.{step_of}
+use Rattle.text_rules.specs.declared.record.Unread.{Unread}
 use Rattle.text_rules.specs.declared.record.Unread.TheVariants.{Part, Malformed}
 use Rattle.text_rules.specs.declared.record.Record.{Record}
 use Rattle.text_rules.specs.Answer.{answer_text, shown_text, wrote_code}
@@ -88,6 +89,7 @@ pub record Numbers : Type 0 where
   pub full : wrote_code None ≡ 8
   pub went : (s : State) (n k : ℕ) → turn_code (going s n k) ≡ 0
   pub unread : turn_code (Err NoRecord) ≡ 7
+  pub lacking : (s : State) (rest : List ℕ) (room : ℕ) (e : Unread) → record_of rest ≡ Err e → turn_code (turn_of s rest room) ≡ parsed_code (record_of rest)
   pub stopped : turn_code (Err Room) ≡ 8
   pub ended : end_code None ≡ 0
   pub stop : (stop : Stop) → end_code (Some stop) ≡ turn_code (Err stop)

@@ -100,7 +100,7 @@ turn_code (Err stop) = stop_code stop
 
 abbrev pub on_turn : {A : Type 0} → Turn → (State → ℕ → ℕ → A) → (ℕ → A) → A
 on_turn (Ok w) on off = on w.state w.used w.written
-on_turn (Err stop) on off = off (stop_code stop)
+on_turn (Err stop) on off = off (turn_code (Err stop))
 
 -- "An empty rest is the end, code 0"; "the counts leave out whatever stopped the replay"; "Codes 1 to 5 are answered as records
 -- and replay goes on". A record is not empty, so as many turns as the trace has bytes are enough

@@ -73,7 +73,8 @@ unfolding step_of
 checks_first s w n code e = rw (w, e)
 
 pub checked_numbers : CheckedNumbers
-checked_numbers = (λ e. refl, λ code. refl)
+unfolding step_of
+checked_numbers = (λ e. refl, λ code. refl, λ s w n code e. rw (w, e))
 
 pub lines_read : LinesRead
 lines_read s n =

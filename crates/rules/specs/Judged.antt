@@ -40,8 +40,11 @@ SixExactly = (s : State) → (well_formed s ≡ true → Regular s) × (Regular 
 abbrev pub ChecksFirst : Type 0
 ChecksFirst = (s : State) → well_formed s ≡ true → (n : Numbers) (code : Code) → check_of n ≡ Err code → step_of s n ≡ refused code s
 
+-- and where the check of a well-formed state's event refuses, its number is the one that the step answers
 abbrev pub CheckedNumbers : Type 0
-CheckedNumbers = ((e : Event) → checked_number (Ok e) ≡ 0) × ((code : Code) → checked_number (Err code) ≡ number_of code)
+CheckedNumbers =
+    ((e : Event) → checked_number (Ok e) ≡ 0) × ((code : Code) → checked_number (Err code) ≡ number_of code)
+    × ((s : State) → well_formed s ≡ true → (n : Numbers) (code : Code) → check_of n ≡ Err code → number_of (step_of s n).code ≡ checked_number (check_of n))
 
 -- "alert and therm are read from that state", whatever the state and the event: alert is pin 6
 abbrev pub LinesRead : Type 0

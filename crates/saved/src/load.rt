@@ -47,7 +47,9 @@ fn channel(b: &[u8], i: u8) -> ChannelState
     }
 }
 
+// Laid out where it is called: there the length is known, and no byte's place is tested.
 #[tactic(auto, unfolding(saved_rules::specs::Layout::state_at))]
+#[inline(always)]
 pub fn load(b: &[u8]) -> State
     ensures { result ≡ state_at b.now }
 {

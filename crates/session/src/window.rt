@@ -14,7 +14,7 @@ pub fn window(a: &[u8], b: &[u8]) -> Window
 {
     let n = a.len().min(39);
     Window {
-        bytes: joined(a, b),
+        bytes: joined(&a[..n], b),
         count: n + b.len().min(39 - n),
     }
 }

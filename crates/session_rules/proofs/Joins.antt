@@ -1,13 +1,14 @@
 -- A play over two parts that stand one behind the other, under way: `Midway` is the loop's invariant. Each turn plays the 39 bytes that stand
 -- next, or all that is left. Assumes nothing.
 use Prim.Native.Nat.{ℕ, ◌+◌, ◌*◌, ◌-◌, ◌≤◌, ◌<◌}
+use native.Mathlib.Nat.{sub-zero}
 use native.Mathlib.Omega.{arith}
 use mathlib.Core.Path.{◌≡◌, refl, sym, ap, subst, ◌∙◌}
 use mathlib.Core.Bool.{Bool, true, false, ◌||◌}
 use mathlib.Core.Logic.{◌⊎◌, inl, inr, ⊎_elim}
 use mathlib.Core.List.{List, [], ◌++◌}
 use lib.Dec.{eqb}
-use borrow.Author.Tests.{eqb-true}
+use borrow.Author.Tests.{eqb-false, eqb-true}
 use lib.ListN.{length, drop, take, length-append, length-drop, length-take, take-append-drop}
 use lib.Seq.{drop-append-le, drop-drop}
 use Rattle.rules.specs.declared.state.State.{State}
@@ -16,13 +17,13 @@ use Rattle.text_rules.specs.Sizes.{shortest_record}
 use Rattle.text_rules.proofs.Bounded.{window_decides}
 use Rattle.text_rules.proofs.More.{whole_stays}
 use Rattle.text_rules.proofs.Records.{record_fits}
-use Rattle.text_rules.proofs.Put.{front_length, front_then, rest}
+use Rattle.text_rules.proofs.Put.{front_length, front_none, front_then, rest}
 use Rattle.replay_rules.specs.declared.play.Played.{Played}
 use Rattle.replay_rules.specs.Play.{end_code, Ran, Run, run_of}
 use Rattle.replay_rules.proofs.Plays.{back, from}
 use Rattle.session_rules.specs.declared.session.Window.{Window}
 use Rattle.session_rules.specs.Portion.{window_of}
-use Rattle.session_rules.proofs.Course.{Course, Lacking, after, after_after, after_halt, course, halt, run_lacks, run_tight, same_run}
+use Rattle.session_rules.proofs.Course.{Course, Lacking, after, after_after, after_halt, course, halt, halt_after, run_lacks, run_tight, same_run}
 use Rattle.session_rules.proofs.Course.Course.{End, Lacks, Tight, Goes}
 use Rattle.session_rules.proofs.Course.Lacking.{Never, Partly}
 use Rattle.session_rules.proofs.Windows.{drop_append, shown_is}
@@ -38,6 +39,10 @@ pub record Midway (s : State) (t x₀ x : List ℕ) (now : State) (n u w : ℕ) 
   pub inside : u ≤ length t
   pub few : shortest_record * n ≤ u
   pub goes : run_of s t (length x₀) ≡ after (so 0 n u text now) (run_of now (drop u t) (length x₀ - w))
+
+pub midway_start : (s : State) (t x : List ℕ) → Midway s t x x s 0 0 0
+midway_start s t x =
+    record { text = []; front = front_none; inside = omega arith; few = omega arith; goes = rw (sub-zero (length x)) (sym (halt_after s 0 (run_of s t (length x)))) }
 
 -- what a window shows of two parts, from a place in the first on
 module _ (first second : List ℕ) (u : ℕ) (h : u ≤ length first) where
@@ -73,6 +78,13 @@ either a b e = by (eqb a 8) refl e
     by : (t : Bool) → eqb a 8 ≡ t → (t || eqb b 0) ≡ true → (a ≡ 8) ⊎ (b ≡ 0)
     by true q e = inl (eqb-true a 8 q)
     by false q e = inr (eqb-true b 0 e)
+
+pub neither : (a b : ℕ) → (eqb a 8 || eqb b 0) ≡ false → 0 < b
+neither a b e = by (eqb a 8) e
+  where
+    by : (t : Bool) → (t || eqb b 0) ≡ false → 0 < b
+    by true e = absurd (let x : ◌≡◌ {A = ℕ} 0 1 = cc in omega arith)
+    by false e = let n : (b ≡ 0 → ⊥) = eqb-false b 0 e in omega (arith, n)
 
 -- the window and what lies behind it
 split : (l : List ℕ) (u : ℕ) → u ≤ length (take 39 l) → drop u l ≡ drop u (take 39 l) ++ drop 39 l

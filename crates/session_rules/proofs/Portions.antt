@@ -29,7 +29,8 @@ use Rattle.replay_rules.specs.Play.{Run, run_of}
 use Rattle.session_rules.specs.declared.session.Session.{Session}
 use Rattle.session_rules.specs.Session.{carried_of, is_session, opened_from, opened_of, padded, partial}
 use Rattle.session_rules.specs.Portion.{Feed, feed_of, refusal, refused_with}
-use Rattle.session_rules.specs.Portions.{EmptyChangesNothing, Fits, Looks, LooksMean, OpeningMeans, PartialMeans, PortionPromise, Ready, RefusalsMean, SessionsAre, bad_rows, partial_rows}
+use Rattle.session_rules.specs.Portions.{EmptyChangesNothing, Fits, Looks, LooksMean, OpeningMeans, PartialMeans, PortionPromise, Ready, RefusalNumbers, RefusalsMean, SessionsAre, bad_rows, partial_rows}
+use Rattle.session_rules.proofs.Codes.{refusal_code}
 use Rattle.session_rules.proofs.Course.{Course, course, halt, run_end}
 use Rattle.session_rules.proofs.Course.Course.{End, Lacks, Tight, Goes}
 use Rattle.session_rules.proofs.Courses.{course_beyond}
@@ -139,6 +140,9 @@ refusals_mean s portion end room =
         by : (t : Bool) → s.ended ≡ t → (t && ltb 0 (length portion)) ≡ false
         by true e = le-ltb 0 (length portion) (omega (arith, h e))
         by false e = refl
+
+pub refusal_numbers : RefusalNumbers
+refusal_numbers = refusal_code
 
 -- ---- A portion that is looked at ----
 

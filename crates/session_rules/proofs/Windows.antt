@@ -9,7 +9,9 @@ use lib.Dec.{leb}
 use lib.ListN.{length, drop, replicate, take, length-append, length-replicate, length-take}
 use lib.Seq.{drop-length, take-append_seam}
 use borrow.Author.Tests.{le-leb}
-use Rattle.std.proofs.lemmas.List.{take_min}
+use Rattle.std.proofs.lemmas.List.{take_all, take_min}
+use Rattle.blocks.specs.Blocks.{filled}
+use Rattle.blocks.proofs.Parts.{take_append}
 use Rattle.saved_rules.specs.Layout.{same_bytes}
 use Rattle.session_rules.specs.declared.session.Window.{Window}
 use Rattle.session_rules.specs.Portion.{window_of}
@@ -37,6 +39,20 @@ length_packed n l after e =
 
 pub from_second : (n k : ℕ) (a b : List ℕ) → length a ≤ n → k ≡ min (n - length a) (length b) → drop (length a) a ++ drop k b ≡ drop n (a ++ b)
 from_second n k a b p f = rw (drop-length a, f, drop_min (n - length a) b, drop_append n a b p)
+
+-- the first part cut where the window ends
+pub window_cut : (n k : ℕ) (a b : List ℕ) → n ≡ min (length a) 39 → k ≡ min (length b) (39 - n)
+    → record { bytes = filled 39 (take n a ++ b); count = n + k } ≡ window_of (a ++ b)
+window_cut n k a b f g =
+    let long : length (take n a) ≡ n = rw (length-take n a) (omega (arith, f)) in
+    let most : n ≡ min 39 (length a) = omega (arith, f) in
+    let front : take n a ≡ take 39 a = rw most (take_min 39 a) in
+    let whole : take 39 (take n a) ≡ take n a = take_all 39 (take n a) (omega (arith, long, f)) in
+    let left : 39 - length (take n a) ≡ 39 - length a = omega (arith, long, f) in
+    let cut : take 39 (take n a ++ b) ≡ take 39 (a ++ b) = rw (take_append 39 (take n a) b, take_append 39 a b, left, whole, front) in
+    let behind : 39 - length (take n a ++ b) ≡ 39 - length (a ++ b) = rw (length-append (take n a) b, length-append a b) (omega (arith, long, f)) in
+    let count : n + k ≡ length (take 39 (a ++ b)) = rw (length-take 39 (a ++ b), length-append a b) (omega (arith, f, g)) in
+    rw (cut, behind, count)
 
 -- a part that is held: the bytes that were looked at, none behind the end, are the first count of them
 pub part_held : (count n : ℕ) (all kept : List ℕ) (same part : Bool) → count ≤ 38 → n ≡ min count (length all) → kept ≡ padded (take n all)

@@ -15,7 +15,7 @@ use Rattle.replay_rules.specs.Play.{Run, run_of}
 use Rattle.session_rules.specs.declared.session.Fed.{Fed}
 use Rattle.session_rules.specs.declared.session.Session.{Session}
 use Rattle.session_rules.specs.Session.{is_session, opened_of, partial}
-use Rattle.session_rules.specs.Portion.{Feed, FedBy, feed_of}
+use Rattle.session_rules.specs.Portion.{Feed, FedBy, fed_code, feed_of, refusal_of, refused_with}
 
 -- ---- Sessions ----
 
@@ -66,6 +66,10 @@ pub record Refuses (s : Session) (portion : List ℕ) (end : Bool) (room : ℕ) 
 
 abbrev pub RefusalsMean : Type 0
 RefusalsMean = (s : Session) (portion : List ℕ) (end : Bool) (room : ℕ) → Refuses s portion end room
+
+-- what refuses a portion has the number that the definition of a feed asks for; nothing refuses exactly where that is 0
+abbrev pub RefusalNumbers : Type 0
+RefusalNumbers = (s : Session) (size : ℕ) → fed_code (refusal_of s size) ≡ refused_with s size
 
 -- ---- A portion that is looked at ----
 

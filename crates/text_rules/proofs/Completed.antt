@@ -8,6 +8,7 @@ use mathlib.Core.List.{List, [], ◌++◌, append_assoc}
 use lib.IntN.{ℤ}
 use lib.ListN.{length, drop}
 use lib.Seq.{drop-append-le, drop-append_seam, drop-drop}
+use Rattle.text_rules.specs.declared.record.Unread.{Unread}
 use Rattle.text_rules.specs.declared.record.Unread.TheVariants.{Part, Malformed}
 use Rattle.std.specs.Prelude.{Ok, Err}
 use Rattle.text_rules.specs.Number.{Line}
@@ -17,7 +18,7 @@ use Rattle.text_rules.specs.Line.{fit_of, line_of}
 use Rattle.text_rules.specs.Record.{next, record_of}
 use Rattle.text_rules.proofs.Lines.{read_between}
 use Rattle.text_rules.proofs.More.{line_firm, refusal_stays, whole_stays}
-use Rattle.text_rules.specs.Completed.{Completed, PartIsCompleted, RefusalStays, WholeStays}
+use Rattle.text_rules.specs.Completed.{Completed, NoRecordIsSeven, PartIsCompleted, RefusalStays, WholeStays}
 use Rattle.text_rules.proofs.Filled.{line_filled, filled_stays}
 
 abbrev IsWhole : Parsed → Type 0
@@ -106,3 +107,7 @@ whole_stays_whole s more r n e = whole_stays s more e
 
 pub refusal_stays_one : RefusalStays
 refusal_stays_one s more e = refusal_stays s more e
+
+pub no_record_is_seven : NoRecordIsSeven
+no_record_is_seven Part = refl
+no_record_is_seven Malformed = refl

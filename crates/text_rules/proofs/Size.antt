@@ -62,10 +62,13 @@ answer_lines code reply alert therm = simp length-append
 pub answer_length : (code reply : ℕ) (alert therm : Bool) → length (answer_text code reply alert therm) ≡ 29 + length (decimal_of code) + length (decimal_of reply)
 answer_length code reply alert therm = answer_lines code reply alert therm ∙ rw (line_length code_name code, line_length reply_name reply, level_length alert_name alert, level_length therm_name therm) (omega arith)
 
--- at most so long, with a code of one digit
+-- at most so long: with a code of one digit, and with a refusal, which replies 0
 pub answer_short : (code reply : ℕ) (alert therm : Bool) → code < 10 → length (answer_text code reply alert therm) ≤ longest_answer
 answer_short code reply alert therm h =
     omega (arith, answer_length code reply alert therm, ap length (decimal_one code h), few_digits reply)
+
+pub refusal_short : (code : ℕ) (alert therm : Bool) → code < 100 → length (answer_text code 0 alert therm) ≤ longest_answer
+refusal_short code alert therm h = omega (arith, answer_length code 0 alert therm, ap length (decimal_one 0 (omega arith)), few_digits code)
 
 -- and at least so long
 pub answer_long : (code reply : ℕ) (alert therm : Bool) → shortest_answer ≤ length (answer_text code reply alert therm)

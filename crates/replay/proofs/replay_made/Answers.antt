@@ -15,5 +15,5 @@ returns-then-is_refused c =
 pub returns : goal.returns
 returns c =
     let h : FitsSigned w32 c.from.result = record { sfits = c.from.type_inv } in
-    finished _ _ _ _ _ (sym c.is_refused.ensures ∙ c.if-is_refused.false) c.play-p.ensures (rw (c.end_number-end.ensures) at c.write_report.ensures)
-    (to_z-of_z h ∙ c.from.ensures ∙ ap pos c.end_number-end.ensures)
+    finished _ _ _ _ _ (sym c.is_refused.ensures ∙ c.if-is_refused.false) c.play-p.ensures (rw (c.end_number-end.ensures.value) at c.write_report.ensures)
+    (to_z-of_z h ∙ c.from.ensures ∙ ap pos c.end_number-end.ensures.value)

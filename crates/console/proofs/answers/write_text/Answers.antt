@@ -9,4 +9,4 @@ returns-then-trace-gt-MOST c =
 
 pub returns : goal.returns
 returns c =
-    rw c.unwrap_or-2.ensures (answered_to c.requires (omega (arith, c.if-trace-gt-MOST.false)) (rw c.fresh.ensures at c.play-p.ensures) (rw c.end_number.ensures at c.write_end-2.ensures))
+    rw c.unwrap_or-2.ensures (answered_to c.requires (omega (arith, c.if-trace-gt-MOST.false)) (rw c.fresh.ensures at c.play-p.ensures) (rw c.end_number.ensures.value at c.write_end-2.ensures))
